@@ -1,0 +1,12 @@
+pub mod Answer
+pub mod Best
+pub mod Merge
+pub mod Rows
+pub mod Starts
+pub mod Extend
+pub mod Cut
+pub mod Bound
+pub mod Lists
+pub mod Demand3
+pub mod Bench
+pub mod Warnings

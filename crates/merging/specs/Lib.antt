@@ -1,0 +1,4 @@
+pub mod Merging
+pub mod Lists
+pub mod Bench
+pub mod Warnings

@@ -1,0 +1,17 @@
+pub mod Bits
+pub mod Power
+pub mod Size
+pub mod Walks
+pub mod Law
+pub mod Accept
+pub mod Ranks
+pub mod Fills
+pub mod Builds
+pub mod Agree
+pub mod Range
+pub mod Examples
+pub mod Held
+pub mod Only
+pub mod Demand3
+pub mod ByHand
+pub mod Table

@@ -1,0 +1,10 @@
+pub mod Bytes
+pub mod Ends
+pub mod Each
+pub mod Giving
+pub mod Turns
+pub mod Ways
+pub mod Accepted
+pub mod Flag
+pub mod Only
+pub mod Examples

@@ -1,0 +1,5 @@
+pub mod Utf8
+pub mod Vocabulary
+pub mod Map
+pub mod Calls
+pub mod Steps

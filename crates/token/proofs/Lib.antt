@@ -1,0 +1,4 @@
+pub mod Cases
+pub mod Ids
+pub mod Mul
+pub mod Only
