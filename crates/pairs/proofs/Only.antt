@@ -1,5 +1,6 @@
 -- No second outcome: what the promise of each call determines. Assumes nothing.
 use mathlib.Core.Path.{_≡_, refl, sym, ap, ap₂, _∙_}
+use mathlib.Core.Bool.{Bool}
 use mathlib.Core.List.{List}
 use Prim.Native.Nat.{ℕ}
 use native.Mathlib.Omega.{arith}
@@ -7,6 +8,7 @@ use denote.Ref.{RefT, now}
 use Rattle.token.specs.Refusals.{number, place, refused}
 use Rattle.token.specs.declared.Refusal.{Refusal}
 use Rattle.token.proofs.Only.{only, only-refusal}
+use Rattle.pairs.specs.Table.{shaped}
 use Rattle.pairs.specs.Calls.{told, Builds, Rank, refuses, rank-of, says}
 use Rattle.pairs.specs.Held.{held-rank, Held}
 use Rattle.pairs.specs.Rank.{rankOf}
@@ -60,6 +62,9 @@ whole t t′ p q r =
 pub only-build : (list : List ℕ) (vocab : ℕ) (s : List ℕ) {r r′ : Built} {t t′ : List ℕ}
     → Builds list vocab s r t → Builds list vocab s r′ t′ → (r ≡ r′) × (t ≡ t′)
 only-build list vocab s {r} {r′} x y = (told-one r r′ (only (x .answer) (y .answer)), only (x .left) (y .left))
+
+pub only-shaped : (n : ℕ) (r r′ : Bool) → r ≡ shaped n → r′ ≡ shaped n → r ≡ r′
+only-shaped n r r′ p q = only p q
 
 pub only-rank : (s : List ℕ) (a b : ℕ) (r r′ : Ranked) → says r ≡ rank-of s a b → says r′ ≡ rank-of s a b → r ≡ r′
 only-rank s a b r r′ p q = only-said r r′ p q

@@ -74,8 +74,8 @@ pub enum Ranked {
     Refused(Refusal),
 }
 
-// A power of two from 64 to 262,144.
-fn shaped(n: usize) -> bool
+// Can a table have so many slots: a power of two from 64 to 262,144?
+pub fn shaped(n: usize) -> bool
     ensures { λ r. ⌜ r ≡ isShaped n ⌝ }
 {
     if usize::count_ones(n) != 1 {

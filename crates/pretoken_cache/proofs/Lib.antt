@@ -1,0 +1,24 @@
+pub mod Bools
+pub mod Walks
+pub mod Names
+pub mod Table
+pub mod Sizes
+pub mod Order
+pub mod Carry
+pub mod Words
+pub mod Entries
+pub mod Sims
+pub mod Asks
+pub mod Map
+pub mod Doubling
+pub mod Reading
+pub mod Turns
+pub mod Bars
+pub mod Gets
+pub mod Changes
+pub mod Grows
+pub mod Shapes
+pub mod Makes
+pub mod Only
+mod Examples
+pub mod Rules

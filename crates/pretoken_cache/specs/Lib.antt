@@ -1,0 +1,9 @@
+pub mod Limits
+pub mod Slot
+pub mod Walk
+pub mod Table
+pub mod Capacity
+pub mod Calls
+pub mod Told
+pub mod Plain
+pub mod Runs
