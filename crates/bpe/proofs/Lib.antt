@@ -1,0 +1,15 @@
+pub mod Same
+pub mod Entries
+pub mod Order
+pub mod Chains
+pub mod Pick
+pub mod Live
+pub mod Links
+pub mod Fills
+pub mod Pack
+pub mod Queue
+pub mod Drains
+pub mod Scans
+pub mod Outcomes
+pub mod Only
+pub mod Demand3
