@@ -3,7 +3,7 @@ ghost use Rattle.std.specs.Prelude.{◌≡◌, ◌+◌, ◌*◌, ◌/◌, ◌%�
 ghost use Rattle.bpe.specs.Look.{entry as entry_of};
 ghost use Rattle.bpe.specs.Heap.{Ordered, Up, Down, Sifted, Least, Pushed, Took};
 
-#[derive(Drop)]
+#[derive(Clone, Copy)]
 pub enum Popped {
     Empty,
     // merged id, place, and how many are left

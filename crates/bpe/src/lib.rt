@@ -1,4 +1,6 @@
 // Merging a row of ids over a pair table: `bpe_merge_symbols_by_rank`, and for bytes `simple_bpe_merge`. specs/Calls.antt says what both promise.
+#![tactic(auto)]
+
 ghost use Rattle.std.specs.Prelude.{◌≡◌, ◌++◌, ◌≤◌, length, drop};
 ghost use Rattle.token.specs.Ids.{first_too_large};
 ghost use Rattle.pairs.specs.Rank.{rank_of};
@@ -20,7 +22,7 @@ pub const SMALL_MERGE_MAX: usize = 32;
 // A byte map has an id for each byte.
 pub const BYTE_MAP_LEN: usize = 256;
 
-#[derive(Drop)]
+#[derive(Clone, Copy)]
 pub enum Merged {
     // so many ids has the answer
     Count(usize),

@@ -16,7 +16,7 @@ const BEFORE: u8 = 255;
 
 // The next of the last place is the row's length, and so is that of a place that was merged away. A place's rank is that of the pair that
 // starts there.
-#[derive(Drop)]
+#[derive(Clone, Copy)]
 pub struct Links {
     next: [u8; 32],
     prev: [u8; 32],
@@ -24,7 +24,7 @@ pub struct Links {
 }
 
 // The places of a pair, the one before and the one after.
-#[derive(Drop)]
+#[derive(Clone, Copy)]
 pub struct Pair {
     left: usize,
     at: usize,

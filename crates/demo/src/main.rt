@@ -1,4 +1,6 @@
 // The demonstration: reads at most 4,096 bytes, merges them under four rules with each byte for its own id, and writes the ids.
+#![tactic(auto)]
+
 ghost use Rattle.std.specs.Prelude.{◌≡◌, ◌≤◌, length};
 ghost use Rattle.demo.specs.Limits.{most};
 

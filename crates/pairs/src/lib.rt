@@ -1,5 +1,7 @@
 // The pair table, in one lent row of slots: `build` stores a list of rules, `rank` looks a pair up. specs/ has both as functions of what
 // they are given, proofs/ that a lookup over a built table is the list's.
+#![tactic(auto)]
+
 ghost use Rattle.std.specs.Prelude.{◌≡◌, ◌≤◌, length, replicate};
 ghost use Rattle.token.specs.Limits.{top};
 ghost use Rattle.pairs.specs.Limits.{vacant, most_rules};
@@ -14,7 +16,7 @@ ghost use Rattle.pairs.specs.Steps.{Fits, Shifts, walked, Room, Inserts, Fillabl
 use token::{Refusal, TokenId};
 
 // The lent slots with their mask and shift, held as one thing.
-#[derive(Drop)]
+#[derive(Clone, Copy)]
 pub struct PairRankTable<'a> {
     pub slots: &'a [u64],
     pub mask: usize,
@@ -56,20 +58,20 @@ impl<'a> PairRankTable<'a> {
 }
 
 // Where a walk stopped: at the key's slot, at an empty slot, or nowhere.
-#[derive(Drop)]
+#[derive(Clone, Copy)]
 enum Stop {
     Hit(usize),
     Empty(usize),
     Full,
 }
 
-#[derive(Drop)]
+#[derive(Clone, Copy)]
 pub enum Built {
     Done,
     Refused(Refusal),
 }
 
-#[derive(Drop)]
+#[derive(Clone, Copy)]
 pub enum Ranked {
     Merged(u32),
     Nothing,

@@ -10,7 +10,7 @@ use crate::{Changed, Name, ShortPretokenCache, Value, size, slot, walk};
 use token::Refusal;
 
 // Where a new name may go: any empty slot, or the proposed one.
-#[derive(Drop)]
+#[derive(Clone, Copy)]
 pub(crate) enum Spot {
     Any,
     At(usize),

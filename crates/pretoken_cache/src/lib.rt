@@ -1,5 +1,7 @@
 // The cache of short pretokens, in one lent row of words. specs/ has its calls as functions of the words and the count, proofs/ that any
 // run of them answers as a plain map (Map.antt).
+#![tactic(auto)]
+
 ghost use Rattle.std.specs.Prelude.{◌≡◌};
 ghost use Rattle.pretoken_cache.specs.Calls.{get, insert as inserted, insert_at as inserted_at, replace as replaced, clear as cleared, reset, with_at_least, capacity as capacity_of, required, grow as grown, view, probe};
 ghost use Rattle.pretoken_cache.specs.Told.{told, tells_size, tells_view, tells_probe, Does};
@@ -12,7 +14,7 @@ mod slot;
 mod walk;
 
 // A key of two words, and the hash that places it. A name is all of these together.
-#[derive(Drop)]
+#[derive(Clone, Copy)]
 pub struct Name {
     pub high: u64,
     pub low: u64,
@@ -20,26 +22,26 @@ pub struct Name {
 }
 
 // What is stored under a name.
-#[derive(Drop)]
+#[derive(Clone, Copy)]
 pub struct Value {
     pub val: u64,
     pub ext: u64,
 }
 
 // The count of a cache's entries. Its words are lent to each call.
-#[derive(Drop)]
+#[derive(Clone, Copy)]
 pub struct ShortPretokenCache {
     pub len: usize,
 }
 
 // What a probe needs of a table: the mask of its home pairs. It stands for one table size, and other words are refused.
-#[derive(Drop)]
+#[derive(Clone, Copy)]
 pub struct ProbeView {
     pub pair_mask: usize,
 }
 
 // What is stored under the name, or the first empty slot of its walk.
-#[derive(Drop)]
+#[derive(Clone, Copy)]
 pub enum Got {
     Found(Value),
     Missing(usize),
@@ -47,26 +49,26 @@ pub enum Got {
 }
 
 // The cache comes back with its count, unchanged by a refusal.
-#[derive(Drop)]
+#[derive(Clone, Copy)]
 pub enum Changed {
     Done(ShortPretokenCache),
     Refused(Refusal, ShortPretokenCache),
 }
 
-#[derive(Drop)]
+#[derive(Clone, Copy)]
 pub enum Sized {
     Slots(usize),
     Refused(Refusal),
 }
 
-#[derive(Drop)]
+#[derive(Clone, Copy)]
 pub enum Viewed {
     View(ProbeView),
     Refused(Refusal),
 }
 
 // Val and ext, and whether the home pair has the name.
-#[derive(Drop)]
+#[derive(Clone, Copy)]
 pub enum Probed {
     Pair(u64, u64, bool),
     Refused(Refusal),

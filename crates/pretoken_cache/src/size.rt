@@ -10,7 +10,7 @@ use crate::{Name, ShortPretokenCache, slot};
 use token::Refusal;
 
 // Whether a call may go on.
-#[derive(Drop)]
+#[derive(Clone, Copy)]
 pub(crate) enum Bar {
     Open,
     Shut(Refusal),

@@ -9,7 +9,7 @@ use crate::{Got, Name, Probed, ShortPretokenCache, Value, slot};
 use token::Refusal;
 
 // Where a walk stopped: at a match, at an empty slot, or nowhere.
-#[derive(Drop)]
+#[derive(Clone, Copy)]
 pub(crate) enum Stop {
     Hit(usize),
     Empty(usize),

@@ -1,4 +1,6 @@
 // The byte map: which id stands for each byte of a text, read off a vocabulary.
+#![tactic(auto)]
+
 ghost use Rattle.std.specs.Prelude.{◌≡◌, length};
 ghost use Rattle.remap.specs.Utf8.{utf8};
 ghost use Rattle.remap.specs.Vocabulary.{misshapen as misshapen_in};
@@ -9,20 +11,20 @@ ghost use Rattle.remap.specs.Steps.{refused_by, read_all, give as given, lacks a
 use token::{Refusal, TokenId};
 
 // The id of each byte.
-#[derive(Drop)]
+#[derive(Clone, Copy)]
 pub struct ByteRemapping {
     pub mapping: [u32; ByteRemapping::BYTES],
 }
 
 // Is nothing wrong with the vocabulary, or what?
-#[derive(Drop)]
+#[derive(Clone, Copy)]
 pub enum Verdict {
     Fine,
     Refused(Refusal),
 }
 
 // A map, whether it differs from the identity, and what is said of the vocabulary.
-#[derive(Drop)]
+#[derive(Clone, Copy)]
 pub struct Remapped {
     pub map: ByteRemapping,
     pub differs: bool,
@@ -30,7 +32,7 @@ pub struct Remapped {
 }
 
 // What `lowest_missing` finds.
-#[derive(Drop)]
+#[derive(Clone, Copy)]
 enum Missing {
     Byte(u8),
     Nothing,

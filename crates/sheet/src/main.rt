@@ -1,4 +1,6 @@
 // The bench sheet, through the real calls: what each row gives stands in the file stdout.
+#![tactic(auto)]
+
 ghost use Rattle.std.specs.Prelude.{◌≡◌, ◌*◌, ◌≤◌, length};
 ghost use Rattle.sheet.specs.Limits.{most_given};
 

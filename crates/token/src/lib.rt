@@ -1,11 +1,13 @@
 // Ids and the numbers that bound them, the refusals of every call, and the low word of a product.
+#![tactic(auto)]
+
 ghost use Rattle.std.specs.Prelude.{◌≡◌, ◌*◌, ◌%◌, ◌^◌, nat_le};
 ghost use Rattle.token.specs.Limits.{top, no_id};
 ghost use Rattle.token.specs.Ids.{first_too_large};
 ghost use Rattle.token.specs.Refusals.{number as number_of, place as place_of};
 
 // An id, or none.
-#[derive(Drop)]
+#[derive(Clone, Copy)]
 pub struct TokenId(pub u32);
 
 impl TokenId {
@@ -45,7 +47,7 @@ impl TokenId {
 }
 
 // Why a call did not do what it was asked, in the order of the numbers.
-#[derive(Drop)]
+#[derive(Clone, Copy)]
 pub enum Refusal {
     CountTooLarge,
     WrongShape,
