@@ -1,14 +1,13 @@
 -- A table that holds its slots answers as the plain lookup. Assumes nothing.
 use mathlib.Core.Path.{◌≡◌, refl, sym, ap, ◌∙◌}
 use mathlib.Core.Logic.{◌≢◌}
-use mathlib.Core.Bool.{true}
 use mathlib.Core.List.{List}
 use Prim.Native.Nat.{ℕ}
 use lib.ListN.{length}
 use denote.Ref.{Bor}
 use borrow.Author.Tests.{eq-eqb, ne_eqb}
 use Rattle.pairs.specs.Calls.{refuses, ranking_of}
-use Rattle.pairs.specs.Held.{held_mask, held_shift, holds, held_rank, Held}
+use Rattle.pairs.specs.Held.{held_mask, held_shift, held_rank, Held}
 use Rattle.pairs.specs.declared.PairRankTable.{PairRankTable}
 
 module _ (s : List ℕ) (mask by a b : ℕ) where

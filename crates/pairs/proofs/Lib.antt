@@ -13,5 +13,3 @@ pub mod Examples
 pub mod Held
 pub mod Only
 pub mod Demand3
-pub mod ByHand
-pub mod Table

@@ -9,7 +9,7 @@ use lib.Bits.{bit_and, and_mask}
 use lib.Count.{ones, count_trailing_zeros, trailing_le}
 use lib.Dec.{eqb, leb}
 use lib.Pow.{pow_mono, pow_pos}
-use borrow.Author.Tests.{eq-eqb, eqb-true, ne_eqb, le-leb, lt-leb, leb-true, leb-false, not-true, not-false}
+use borrow.Author.Tests.{eq-eqb, eqb-true, ne_eqb, le-leb, lt-leb, leb-true, leb-false, not-true}
 use Rattle.pairs.specs.Limits.{factor, most_rules, least_slots, most_slots}
 use Rattle.pairs.specs.Key.{shift, home}
 use Rattle.pairs.specs.Table.{shaped, Sized, enough, wanted}
@@ -121,10 +121,10 @@ module _ (rules n : ℕ) where
   unfolding wanted
   wanted_no_power a = rw (ne_eqb (ones n) 1 a)
 
-  pub wanted_short : ones n ≡ 1 → {t : Bool} → t ≡ enough rules n → not t ≡ true → false ≡ wanted rules n
+  pub wanted_short : ones n ≡ 1 → {t : Bool} → t ≡ enough rules n → t ≡ false → false ≡ wanted rules n
   unfolding wanted
-  wanted_short a {t} e f = let g : enough rules n ≡ false = sym e ∙ not-true t f in rw (eq-eqb (ones n) 1 a, g)
+  wanted_short a {t} e f = let g : enough rules n ≡ false = sym e ∙ f in rw (eq-eqb (ones n) 1 a, g)
 
-  pub wanted_least : ones n ≡ 1 → {t u : Bool} → t ≡ enough rules n → not t ≡ false → u ≡ enough rules (n / 2) → not u ≡ wanted rules n
+  pub wanted_least : ones n ≡ 1 → {t u : Bool} → t ≡ enough rules n → t ≡ true → u ≡ enough rules (n / 2) → not u ≡ wanted rules n
   unfolding wanted
-  wanted_least a {t} {u} e f i = let g : enough rules n ≡ true = sym e ∙ not-false t f in rw (eq-eqb (ones n) 1 a, g, i)
+  wanted_least a {t} {u} e f i = let g : enough rules n ≡ true = sym e ∙ f in rw (eq-eqb (ones n) 1 a, g, i)

@@ -76,7 +76,7 @@ module _ {s : List ℕ} {k : ℕ} where
   longer zero l (met e) = absurd (omega arith)
   longer zero l (next d e h) = absurd (omega arith)
   longer (suc g) l (met e) = met e
-  longer (suc g) l (next d e h) = next d e (longer g (omega arith) h)
+  longer {i = i} {j = j} (suc g) l (next {f = f} d e h) = next d e (longer {f = f} g (omega arith) h)
 
 -- ---- one turn of the code's loop, by what its tests said
 
