@@ -2,8 +2,7 @@
 use mathlib.Core.Path.{◌≡◌, refl, sym, ap, ap₂, subst, ◌∙◌}
 use mathlib.Core.Logic.{◌⊎◌, inl, inr, ⊎_elim}
 use mathlib.Core.List.{List, ◌++◌}
-use Prim.Native.Nat.{ℕ, zero, suc, ◌+◌, ◌*◌, ◌-◌, ◌^◌, ◌≤◌, ◌<◌}
-use native.Mathlib.Numerals.{add-one}
+use Prim.Native.Nat.{ℕ, ◌+◌, ◌*◌, ◌-◌, ◌≤◌, ◌<◌}
 use native.Mathlib.Omega.{arith}
 use lib.ListN.{length, get_or, set, drop, replicate, length-set, length-map, length-drop}
 use lib.Seq.{ext_get_or, get_or-drop}
@@ -12,8 +11,8 @@ use Rattle.merging.specs.Merging.{Lookup, merge}
 use Rattle.bpe.specs.Calls.{zeroed, merged_row}
 use Rattle.bpe.specs.Look.{look_by, rank_at, entry, After}
 use Rattle.bpe.specs.Links.{Past, Each, links, Cut, symbols, Compacted, Live}
-use Rattle.bpe.specs.Heap.{Ordered, Member, Taken}
-use Rattle.bpe.specs.Long.{Room, IsEntry, Queued, Requeued, Around, Ready, Dropped, Joined, Turned, Going, Start, Drained, Relinked, Seeded, Begun, Cleared, MergedWith}
+use Rattle.bpe.specs.Heap.{Member, Taken}
+use Rattle.bpe.specs.Long.{Room, IsEntry, Queued, Requeued, Around, Ready, Joined, Turned, Going, Start, Drained, Begun, Cleared, MergedWith}
 use Rattle.token.proofs.Cases.{by_equal}
 use Rattle.bpe.proofs.Same.{read, at_list}
 use Rattle.bpe.proofs.Entries.{entry_order, entry_same}

@@ -2,13 +2,13 @@
 use mathlib.Core.Path.{◌≡◌, refl, sym, ap, subst, ◌∙◌}
 use mathlib.Core.Logic.{◌⊎◌, inl, inr, ⊎_elim}
 use mathlib.Core.List.{List, [], ◌∷◌, ◌++◌}
-use Prim.Native.Nat.{ℕ, zero, suc, ◌+◌, ◌≤◌, ◌<◌}
+use Prim.Native.Nat.{ℕ, suc, ◌≤◌, ◌<◌}
 use native.Mathlib.Numerals.{add-one}
 use native.Mathlib.Omega.{arith}
 use lib.ListN.{length, get_or, set}
 use lib.Seq.{get_or-set_same, get_or-set_other}
 use Rattle.token.specs.Limits.{no_id}
-use Rattle.merging.specs.Merging.{Lookup, Best, Stuck, once, merging, merge, In, join, count}
+use Rattle.merging.specs.Merging.{Lookup, Best, Stuck, once, merging, merge, In, count}
 use Rattle.merging.proofs.Best.{best_complete}
 use Rattle.merging.proofs.Merge.{once_at, merging_add, merges_merging, merges_unique}
 use Rattle.merging.proofs.Rows.{in_count}
@@ -16,7 +16,7 @@ use Rattle.bpe.specs.Look.{look_by, rank_at, After}
 use Rattle.bpe.specs.Links.{Each, Rises, Fresh, Cut, Chain, Any, Linked, Last, symbols, Live, Walk}
 use Rattle.token.proofs.Cases.{by_equal}
 use Rattle.bpe.proofs.Same.{read, at_list}
-use Rattle.bpe.proofs.Chains.{in_right, in_left, in_out, in_in, in_parts, chain_left, chain_right, chain_join, chain_at, chain_map, chain_above, chain_first, chain_below, same_first, symbols_join, chain_count, in_all, first_count, symbols_all}
+use Rattle.bpe.proofs.Chains.{in_right, in_out, in_in, in_parts, chain_left, chain_right, chain_join, chain_at, chain_map, chain_above, chain_first, chain_below, same_first, symbols_join, chain_count, in_all, first_count, symbols_all}
 use Rattle.bpe.proofs.Pick.{best_after, chain_stuck}
 
 rises : {next prev : List ℕ} (a b : ℕ) → Linked next prev a b → a < b

@@ -1,12 +1,12 @@
 -- No second outcome: what the promise of each call determines. Assumes nothing.
-use mathlib.Core.Path.{◌≡◌, refl, ap}
+use mathlib.Core.Path.{◌≡◌, ap}
 use mathlib.Core.List.{List}
 use Prim.Native.Nat.{ℕ}
 use native.Mathlib.Omega.{arith}
 use Rattle.token.specs.Refusals.{Verdict, verdict}
 use Rattle.token.proofs.Only.{only, only_refusal}
 use Rattle.merging.specs.Merging.{Lookup}
-use Rattle.bpe.specs.Calls.{Told, counted, refuses, told, Merges, MergesRow, MergesBytes}
+use Rattle.bpe.specs.Calls.{told, Merges, MergesRow, MergesBytes}
 use Rattle.bpe.specs.declared.Merged.{Merged}
 use Rattle.bpe.specs.declared.Merged.TheVariants as merged
 

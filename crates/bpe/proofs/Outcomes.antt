@@ -2,7 +2,7 @@
 use mathlib.Core.Path.{◌≡◌, refl, sym, ap, ◌∙◌}
 use mathlib.Core.Bool.{Bool, true, false, not, ◌||◌}
 use mathlib.Core.List.{List, [], ◌∷◌, ◌++◌, append-nil}
-use Prim.Native.Nat.{ℕ, zero, suc, ◌+◌, ◌*◌, ◌-◌, ◌/◌, ◌≤◌, ◌<◌}
+use Prim.Native.Nat.{ℕ, zero, suc, ◌*◌, ◌-◌, ◌/◌, ◌≤◌, ◌<◌}
 use native.Mathlib.Omega.{arith}
 use borrow.Author.Tests.{lt-ltb, le-ltb, ltb-true, ltb-false, eq-eqb, ne_eqb}
 use lib.Dec.{ltb, eqb}
@@ -13,19 +13,18 @@ use Rattle.token.specs.Ids.{Legal, first_too_large}
 use Rattle.token.specs.Refusals.{Verdict, fine, refused, verdict}
 use Rattle.token.specs.declared.Refusal.{Refusal}
 use Rattle.token.proofs.Cases.{by_test}
-use Rattle.token.proofs.Ids.{legal_by}
 use Rattle.merging.specs.Merging.{Lookup, Stuck, merge}
 use Rattle.merging.proofs.Answer.{by_answer}
 use Rattle.merging.proofs.Bound.{merge_agree}
 use Rattle.merging.proofs.Merge.{stuck_merge}
 use Rattle.pairs.specs.Table.{look, shaped}
-use Rattle.pairs.specs.Calls.{ranks, ranking_of}
-use Rattle.pairs.specs.Rank.{number, rank_of}
+use Rattle.pairs.specs.Calls.{ranking_of}
+use Rattle.pairs.specs.Rank.{rank_of}
 use Rattle.pairs.proofs.Agree.{look_small, look_stays, up_to_top}
 use Rattle.bpe.specs.Limits.{most_small, map_length}
-use Rattle.bpe.specs.Calls.{unfit, first_of, row_verdict, bytes_verdict, through, merged_row, used, counted, Merges}
-use Rattle.bpe.specs.Look.{answer_of, look_in}
-use Rattle.bpe.specs.Long.{Fit, MergedWith}
+use Rattle.bpe.specs.Calls.{unfit, first_of, row_verdict, bytes_verdict, through, used, counted, Merges}
+use Rattle.bpe.specs.Look.{look_in}
+use Rattle.bpe.specs.Long.{MergedWith}
 use Rattle.bpe.specs.Small.{MergedShort}
 use Rattle.bpe.specs.declared.Merged.TheVariants as merged
 use Rattle.bpe.proofs.Pick.{answer_rule, answer_none}

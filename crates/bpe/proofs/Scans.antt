@@ -1,24 +1,23 @@
 -- The run by a scan of ranks: the least entry, one merge, the beginning and the end. Assumes nothing.
-use mathlib.Core.Path.{◌≡◌, refl, sym, ap, ap₂, subst, ◌∙◌}
-use mathlib.Core.Logic.{◌⊎◌, inl, inr, ⊎_elim}
+use mathlib.Core.Path.{◌≡◌, refl, sym, ap, ap₂, ◌∙◌}
+use mathlib.Core.Logic.{◌⊎◌, ⊎_elim}
 use mathlib.Core.List.{List}
 use Prim.Native.Nat.{ℕ, ◌+◌, ◌-◌, ◌/◌, ◌%◌, ◌^◌, ◌≤◌, ◌<◌}
 use native.Mathlib.Omega.{arith}
 use lib.ListN.{length, get_or, set, length-set}
 use lib.Seq.{get_or-set_same, get_or-set_other}
 use Rattle.token.specs.Limits.{no_id}
-use Rattle.merging.specs.Merging.{merge}
 use Rattle.merging.proofs.Rows.{lt_or_le}
 use Rattle.bpe.specs.Limits.{most_small, no_place}
 use Rattle.bpe.specs.Look.{look_by, rank_at, entry, After}
-use Rattle.bpe.specs.Links.{Each, Fresh, links, Cut, symbols, Compacted}
+use Rattle.bpe.specs.Links.{Each, links, Cut, Compacted}
 use Rattle.bpe.specs.declared.small.Pair.{Pair}
-use Rattle.bpe.specs.Small.{Sized, Ranked, Linked8, Picked, IsPair, Placed, Between, Backed, Reranked, Ready8, Joined8, Scanning, MergedShort}
+use Rattle.bpe.specs.Small.{Ranked, Linked8, Picked, IsPair, Placed, Between, Backed, Reranked, Ready8, Joined8, Scanning, MergedShort}
 use Rattle.token.proofs.Cases.{by_equal}
-use Rattle.bpe.proofs.Same.{read, at_list}
+use Rattle.bpe.proofs.Same.{read}
 use Rattle.bpe.proofs.Entries.{entry_order}
-use Rattle.bpe.proofs.Links.{Back, cut}
-use Rattle.bpe.proofs.Live.{live_left, live_right, live_rises, prev_same, each_joined, joined_rest, live_merged, live_done, live_start}
+use Rattle.bpe.proofs.Links.{cut}
+use Rattle.bpe.proofs.Live.{live_left, live_right, live_rises, each_joined, joined_rest, live_merged, live_done, live_start}
 use Rattle.bpe.proofs.Drains.{answered}
 
 -- ---- the least entry, up to i
