@@ -11,6 +11,7 @@ use Rattle.token.specs.Limits.{top, most_entries}
 use Rattle.token.specs.Ids.{Legal, first_too_large}
 use Rattle.token.specs.Refusals.{fine, refused, verdict}
 use Rattle.token.specs.declared.Refusal.{Refusal}
+use Rattle.token.specs.declared.Refusal.TheVariants.{CountTooLarge}
 use Rattle.token.proofs.Ids.{legal_all}
 use Rattle.merging.specs.Lists.{look_of}
 use Rattle.pairs.specs.Limits.{vacant, most_rules}
@@ -89,6 +90,10 @@ module _ (list : List ℕ) (vocab : ℕ) (s : List ℕ) where
 
   pub build_refused : (f : Refusal) → Leaves f → refusal_of list vocab (length s) ≡ verdict f → Builds list vocab s (built.Refused f) s
   build_refused f l e = record { answer = sym e; left = rw e (l _) }
+
+  -- a vocabulary with too many entries is refused, after a list of too many rules
+  pub wide_refused : length list / 3 ≤ most_rules → most_entries < vocab → Builds list vocab s (built.Refused CountTooLarge) s
+  wide_refused few wide = build_refused CountTooLarge (λ t. refl) (too_wide list vocab (length s) few wide)
 
   left_by : (f : Filled) → Ends (length s) f → slots_of f (length s) ≡ after (refused_by f) s (slots_of f (length s))
   left_by (slots t) h = refl

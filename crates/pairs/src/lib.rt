@@ -313,6 +313,7 @@ fn fill(list: &[u32], slots: &mut [u64]) -> Built
 }
 
 // The slots of a list of rules. Refuses 1 to 5.
+#[tactic(auto, using(crate::proofs::Builds::wide_refused))]
 pub fn build(list: &[u32], vocab_len: usize, slots: &mut [u64]) -> Built
     ensures { Builds list.now vocab_len slots.old result slots.new }
 {

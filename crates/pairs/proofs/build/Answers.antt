@@ -1,28 +1,26 @@
 -- By the tests in their order, and what storing the rules ended in. Assumes nothing.
 use mathlib.Core.Path.{refl, sym, ap, ◌∙◌}
 use Prim.Native.Nat.{ℕ}
+use native.Mathlib.Omega.{arith}
 use lib.ListN.{replicate}
 use Rattle.token.specs.declared.Refusal.TheVariants.{CountTooLarge, WrongShape, IdTooLarge}
 use Rattle.token.proofs.Ids.{legal_by}
 use Rattle.pairs.specs.Limits.{vacant}
 use Rattle.pairs.proofs.Size.{wanted_sized}
-use Rattle.pairs.proofs.Builds.{too_many, too_wide, not_whole, not_wanted, too_high, by_rules, build_refused, build_filled}
+use Rattle.pairs.proofs.Builds.{too_many, not_whole, not_wanted, too_high, by_rules, build_refused, build_filled}
 use Rattle.pairs.proofs.build.Goals as goal
 
 pub returns-then-rules-gt-MAX_RULES : goal.returns-then-rules-gt-MAX_RULES
 returns-then-rules-gt-MAX_RULES c = build_refused _ _ _ CountTooLarge (λ t. refl) (too_many _ _ _ c.if-rules-gt-MAX_RULES.true)
 
-pub returns-then-vocab_len-gt-VOCAB_MAX : goal.returns-then-vocab_len-gt-VOCAB_MAX
-returns-then-vocab_len-gt-VOCAB_MAX c = build_refused _ _ _ CountTooLarge (λ t. refl) (too_wide _ _ _ c.if-rules-gt-MAX_RULES.false c.if-vocab_len-gt-VOCAB_MAX.true)
-
 pub returns-then-list-ne0 : goal.returns-then-list-ne0
-returns-then-list-ne0 c = build_refused _ _ _ WrongShape (λ t. refl) (not_whole _ _ _ c.if-rules-gt-MAX_RULES.false c.if-vocab_len-gt-VOCAB_MAX.false c.if-list-ne0.true)
+returns-then-list-ne0 c = build_refused _ _ _ WrongShape (λ t. refl) (not_whole _ _ _ c.if-rules-gt-MAX_RULES.false (omega arith) c.if-list-ne0.true)
 
 pub returns-then-not-wanted : goal.returns-then-not-wanted
-returns-then-not-wanted c = build_refused _ _ _ WrongShape (λ t. refl) (not_wanted _ _ _ c.if-rules-gt-MAX_RULES.false c.if-vocab_len-gt-VOCAB_MAX.false c.if-list-ne0.false (sym c.wanted.ensures ∙ c.if-not-wanted.true))
+returns-then-not-wanted c = build_refused _ _ _ WrongShape (λ t. refl) (not_wanted _ _ _ c.if-rules-gt-MAX_RULES.false (omega arith) c.if-list-ne0.false (sym c.wanted.ensures ∙ c.if-not-wanted.true))
 
 pub returns-then-at-list : goal.returns-then-at-list
-returns-then-at-list c = build_refused _ _ _ (IdTooLarge _) (λ t. refl) (too_high _ _ _ c.if-rules-gt-MAX_RULES.false c.if-vocab_len-gt-VOCAB_MAX.false c.if-list-ne0.false (sym c.wanted.ensures ∙ c.if-not-wanted.false) c.first_too_large-at.ensures c.if-at-list.true)
+returns-then-at-list c = build_refused _ _ _ (IdTooLarge _) (λ t. refl) (too_high _ _ _ c.if-rules-gt-MAX_RULES.false (omega arith) c.if-list-ne0.false (sym c.wanted.ensures ∙ c.if-not-wanted.false) c.first_too_large-at.ensures c.if-at-list.true)
 
 pub fill-requires : goal.fill-requires
 fill-requires c =
@@ -36,6 +34,6 @@ fill-requires c =
 pub returns : goal.returns
 returns c =
     build_filled _ _ _ c.clear.auto.slots
-    (by_rules _ _ _ c.if-rules-gt-MAX_RULES.false c.if-vocab_len-gt-VOCAB_MAX.false c.if-list-ne0.false (sym c.wanted.ensures ∙ c.if-not-wanted.false)
+    (by_rules _ _ _ c.if-rules-gt-MAX_RULES.false (omega arith) c.if-list-ne0.false (sym c.wanted.ensures ∙ c.if-not-wanted.false)
     (legal_by c.args.list.now c.first_too_large-at.ensures c.if-at-list.false))
     c.fill.ensures
