@@ -11,7 +11,7 @@ use lib.ListN.{length, get_or, drop, replicate, length-set, length-replicate, ge
 use lib.Seq.{slice, slice-cons, slice_empty, length-slice, drop-cons, drop-length, get_or-set_same, get_or-set_other}
 use borrow.Author.Tests.{eq-eqb, ne_eqb, eqb-true, eqb-false}
 use Rattle.token.specs.Limits.{no_id}
-use Rattle.token.proofs.Cases.{by_test}
+use Rattle.token.proofs.Cases.{by_test, by_equal}
 use Rattle.remap.specs.Vocabulary.{entries, vocabulary, misshapen}
 use Rattle.remap.specs.Map.{all_bytes, Found, found, is_byte, id_from, each, ids_of}
 use Rattle.remap.specs.Calls.{ids}
@@ -103,6 +103,15 @@ module _ (bytes ends m : List ℕ) (start i : ℕ) (g : Going bytes ends m start
   other longer =
       next m refl
       (λ b s later. rw (other_length b (slice start (get_or ends i 0) bytes) (λ q. longer (sym (length-slice start (get_or ends i 0) bytes inside) ∙ q))))
+
+  -- the state after the entry, by its length
+  pub turn : (m' : List ℕ) → get_or bytes start 0 < all_bytes → i < no_id
+      → (get_or ends i 0 - start ≡ 1 → m' ≡ give m (get_or bytes start 0) i) → ((get_or ends i 0 - start ≡ 1 → ⊥) → m' ≡ m)
+      → Going bytes ends m' (get_or ends i 0) (i + 1)
+  turn m' small few one longer =
+      by_equal (get_or ends i 0 - start) 1
+      (λ e. rw (one e) (one_byte e small few))
+      (λ n. rw (longer n) (other n))
 
 -- after the last entry the map has all ids
 pub ended : (bytes ends m : List ℕ) (start i : ℕ) → Going bytes ends m start i → i ≡ length ends → read_all m ≡ ids bytes ends

@@ -46,6 +46,7 @@ impl ByteRemapping {
     pub const FILLER: u32 = 0;
 
     // Entry i of the vocabulary runs from the end before it (0 at first) to its own. Refuses 1, 2 and 6.
+    #[tactic(auto, unfolding(crate::specs::Calls::verdict_of))]
     pub fn from_byte_vocab(bytes: &[u8], ends: &[u32]) -> Remapped
         ensures { Remaps bytes.now ends.now result }
     {
@@ -73,6 +74,7 @@ impl ByteRemapping {
 }
 
 // Can the byte stand in a text of UTF-8? C0 and C1 would start an overlong form, F5 to FF a code point past the last.
+#[tactic(auto, using(crate::proofs::Bytes::utf8_by_range))]
 pub fn is_valid_utf8_byte(b: u8) -> bool
     ensures { result ≡ utf8 b }
 {

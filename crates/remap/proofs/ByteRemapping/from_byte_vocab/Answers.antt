@@ -1,19 +1,17 @@
 -- The two tests, then the map: what `scan` leaves is the list of ids, which the calls after it read. Assumes nothing.
 use mathlib.Core.Path.{refl, sym, ap, ◌∙◌}
+use native.Mathlib.Omega.{arith}
 use lib.ListN.{length}
 use Rattle.remap.specs.Map.{missing, map_of, differs}
-use Rattle.remap.proofs.Ways.{scanned_length, filled_length, too_many, wrong_shape, lacks_byte, made}
+use Rattle.remap.proofs.Ways.{scanned_length, filled_length, wrong_shape, lacks_byte, made}
 use Rattle.remap.proofs.ByteRemapping.from_byte_vocab.Goals as goal
 
-pub returns-then-ends-gt-VOCAB_MAX : goal.returns-then-ends-gt-VOCAB_MAX
-returns-then-ends-gt-VOCAB_MAX c = too_many _ _ c.if-ends-gt-VOCAB_MAX.true c.refused.ensures
-
 pub returns-then-misshapen : goal.returns-then-misshapen
-returns-then-misshapen c = wrong_shape _ _ c.if-ends-gt-VOCAB_MAX.false (sym c.misshapen.ensures ∙ c.if-misshapen.true) c.refused-then-misshapen.ensures
+returns-then-misshapen c = wrong_shape _ _ (omega arith) (sym c.misshapen.ensures ∙ c.if-misshapen.true) c.refused-then-misshapen.ensures
 
 pub scan-requires : goal.scan-requires
 scan-requires c = record {
-  few = c.if-ends-gt-VOCAB_MAX.false;
+  few = omega arith;
   whole = sym c.misshapen.ensures ∙ c.if-misshapen.false;
   unset = refl;
 }
@@ -29,7 +27,7 @@ differs-flag-requires c = ap length c.fill.ensures ∙ filled_length c.scan.new.
 
 pub returns-in-Byte : goal.returns-in-Byte
 returns-in-Byte c =
-    lacks_byte _ _ c.if-ends-gt-VOCAB_MAX.false (sym c.misshapen.ensures ∙ c.if-misshapen.false) _
+    lacks_byte _ _ (omega arith) (sym c.misshapen.ensures ∙ c.if-misshapen.false) _
     (ap (missing 0) (sym c.scan.ensures) ∙ sym c.in-Byte.ensures)
     c.refused-in-Byte.ensures
 
@@ -38,7 +36,7 @@ returns-in-Nothing c =
     let m = c.fill.ensures ∙ ap map_of c.scan.ensures in
     made _ _
     record {
-      few = c.if-ends-gt-VOCAB_MAX.false;
+      few = omega arith;
       whole = sym c.misshapen.ensures ∙ c.if-misshapen.false;
       full = ap (missing 0) (sym c.scan.ensures) ∙ sym c.in-Nothing.ensures;
     }
