@@ -150,6 +150,7 @@ fn find(slots: &[u64], mask: usize, shift: u32, k: u64, fuel: usize) -> Stop
 }
 
 // What the pair is merged to, in slots of the right shape. Refuses 3.
+#[tactic(auto, using(crate::proofs::Ranks::rank_first))]
 fn rank_in(slots: &[u64], mask: usize, shift: u32, a: u32, b: u32) -> Ranked
     requires { Fits slots.now mask shift }
     ensures { says result ≡ ranking_of slots.now a b }
