@@ -101,7 +101,7 @@ module _ {see : ℕ → Sight} where
   pub at_once : {i s : ℕ} (l : List ℕ) → Walks see (i ∷ []) (hit s) → Walks see (i ∷ l) (hit s)
   at_once l (first p) = first p
   at_once l (second n p) = second n p
-  at_once {i = i} {s = s} l (next _ _ x12) = elim x12 [ ]
+  at_once {i = i} {s = s} l (next _ _ h) = elim h [ ]
 
   -- the first empty slot, with no look for matches
   pub blindly : {blind : ℕ → Sight} → ((s : ℕ) → see s ≢ mine → blind s ≡ see s) → ((s : ℕ) → blind s ≢ mine)

@@ -116,6 +116,7 @@ impl ShortPretokenCache {
     }
 
     // How many slots take n entries and a new one, and are no fewer than asked. Refuses 1.
+    #[tactic(auto, using(crate::proofs::Makes::required_n, crate::proofs::Makes::required_asked, crate::proofs::Makes::required_is))]
     pub fn required_capacity(n: usize, min_slots: usize) -> Sized
         ensures { tells_size result ≡ required n min_slots }
     {

@@ -17,6 +17,7 @@ pub(crate) enum Bar {
 }
 
 // A power of two from the least to the most.
+#[tactic(auto, using(crate::proofs::Shapes::proper_ones, crate::proofs::Shapes::proper_least, crate::proofs::Shapes::proper_most))]
 pub(crate) fn proper(n: usize) -> bool
     ensures { result ≡ is_proper n }
 {
@@ -40,6 +41,7 @@ pub(crate) fn shaped(words: &[u64]) -> bool
 }
 
 // 1, then 2.
+#[tactic(auto, using(crate::proofs::Bars::unfit_1, crate::proofs::Bars::unfit_2, crate::proofs::Bars::unfit_none))]
 pub(crate) fn unfit(count: usize, words: &[u64]) -> Bar
     ensures { barred_by result ≡ is_unfit count (is_shaped words.now) }
 {

@@ -9,8 +9,5 @@ returns-then-not-viewed c = probe_2 _ _ _ (sym c.viewed.ensures ∙ c.if-not-vie
 pub returns-then-keyless : goal.returns-then-keyless
 returns-then-keyless c = probe_7 _ _ _ (sym c.viewed.ensures ∙ c.if-not-viewed.false) (sym c.keyless.ensures ∙ c.if-keyless.true)
 
-pub probed-requires : goal.probed-requires
-probed-requires c = (sym c.viewed.ensures ∙ c.if-not-viewed.false, sym c.keyless.ensures ∙ c.if-keyless.false)
-
 pub returns : goal.returns
 returns c = c.probed.ensures ∙ probe_shows _ _ _ (sym c.viewed.ensures ∙ c.if-not-viewed.false) (sym c.keyless.ensures ∙ c.if-keyless.false)

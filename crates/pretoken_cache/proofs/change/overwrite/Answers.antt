@@ -5,17 +5,8 @@ use Rattle.pretoken_cache.proofs.Gets.{hit_fits}
 use Rattle.pretoken_cache.proofs.Changes.{replaced_hit, replaced_empty, replaced_full}
 use Rattle.pretoken_cache.proofs.change.overwrite.Goals as goal
 
-pub seek-stop-requires : goal.seek-stop-requires
-seek-stop-requires c = (c.requires.0, c.requires.1)
-
 pub put-requires : goal.put-requires
 put-requires c = hit_fits _ _ c.requires.0 (sym (ap walked c.in-Hit.is) ∙ c.seek-stop.ensures)
-
-pub settle-requires : goal.settle-requires
-settle-requires c = (c.requires.0, c.seek-stop.ensures, c.requires.2)
-
-pub settle-requires-in-Full : goal.settle-requires-in-Full
-settle-requires-in-Full c = (c.requires.0, c.seek-stop.ensures, c.requires.2)
 
 pub returns-in-Hit : goal.returns-in-Hit
 returns-in-Hit c = rw (← c.seek-stop.ensures) (replaced_hit _ _ _ _ (ap walked c.in-Hit.is) c.put.ensures)

@@ -1,20 +1,14 @@
 -- The invariant: doubling goes on from here to where it ends. Assumes nothing.
 use mathlib.Core.Path.{sym, ◌∙◌}
 use native.Mathlib.Omega.{arith}
-use Rattle.pretoken_cache.proofs.Doubling.{below_n, larger_most, required_start, doubles_most, doubles_on, doubles_over}
+use Rattle.pretoken_cache.proofs.Doubling.{below_n, required_start, doubles_most, doubles_on, doubles_over}
 use Rattle.pretoken_cache.proofs.size.required.Goals as goal
-
-pub power_from-cap-requires : goal.power_from-cap-requires
-power_from-cap-requires c = rw c.larger.ensures (larger_most _ _ c.requires.1 (omega arith))
 
 pub loop-cap-init : goal.loop-cap-init
 loop-cap-init c = rw (c.power_from-cap.ensures, c.larger.ensures) (required_start _ _ c.requires.1)
 
 pub laden-requires : goal.laden-requires
 laden-requires c = ((doubles_most c.loop-cap.invariant).1, omega arith)
-
-pub overflow_mul-cap : goal.overflow_mul-cap
-overflow_mul-cap c = omega (arith, doubles_most c.loop-cap.invariant)
 
 pub loop-cap-smaller : goal.loop-cap-smaller
 loop-cap-smaller c = omega (arith, doubles_most c.loop-cap.invariant, below_n c.requires.0 _ (sym c.laden.ensures ∙ c.loop-cap-test.true))

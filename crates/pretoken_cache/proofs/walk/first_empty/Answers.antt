@@ -10,14 +10,11 @@ overflow_sub-i c = omega (arith, (at_least _ c.requires).0)
 pub loop-pairs-init : goal.loop-pairs-init
 loop-pairs-init c = empty_start _ c.requires _
 
-pub overflow_add-j : goal.overflow_add-j
-overflow_add-j c = omega (arith, turn_fits _ c.requires c.loop-pairs.invariant)
-
 pub vacant-requires : goal.vacant-requires
-vacant-requires c = (turn_fits _ c.requires c.loop-pairs.invariant).0
+vacant-requires c = omega (arith, turn_fits _ c.requires c.loop-pairs.invariant)
 
 pub vacant-requires-in-loop-pairs : goal.vacant-requires-in-loop-pairs
-vacant-requires-in-loop-pairs c = (turn_fits _ c.requires c.loop-pairs.invariant).1
+vacant-requires-in-loop-pairs c = omega (arith, turn_fits _ c.requires c.loop-pairs.invariant)
 
 pub overflow_add-i : goal.overflow_add-i
 overflow_add-i c = omega (arith, turn_fits _ c.requires c.loop-pairs.invariant)

@@ -10,20 +10,17 @@ overflow_sub-i c = omega (arith, (at_least _ c.requires.0).0)
 pub loop-left-init : goal.loop-left-init
 loop-left-init c = seek_start _ c.requires.0 _
 
-pub overflow_add-j : goal.overflow_add-j
-overflow_add-j c = omega (arith, turn_fits _ c.requires.0 c.loop-left.invariant)
-
 pub mine-requires : goal.mine-requires
-mine-requires c = (turn_fits _ c.requires.0 c.loop-left.invariant).0
+mine-requires c = omega (arith, turn_fits _ c.requires.0 c.loop-left.invariant)
 
 pub mine-requires-in-loop-left : goal.mine-requires-in-loop-left
-mine-requires-in-loop-left c = (turn_fits _ c.requires.0 c.loop-left.invariant).1
+mine-requires-in-loop-left c = omega (arith, turn_fits _ c.requires.0 c.loop-left.invariant)
 
 pub vacant-requires : goal.vacant-requires
-vacant-requires c = (turn_fits _ c.requires.0 c.loop-left.invariant).0
+vacant-requires c = omega (arith, turn_fits _ c.requires.0 c.loop-left.invariant)
 
 pub vacant-requires-in-loop-left : goal.vacant-requires-in-loop-left
-vacant-requires-in-loop-left c = (turn_fits _ c.requires.0 c.loop-left.invariant).1
+vacant-requires-in-loop-left c = omega (arith, turn_fits _ c.requires.0 c.loop-left.invariant)
 
 pub overflow_add-i : goal.overflow_add-i
 overflow_add-i c = omega (arith, turn_fits _ c.requires.0 c.loop-left.invariant)
