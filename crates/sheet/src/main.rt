@@ -124,7 +124,13 @@ fn numbered() -> [u32; 99]
 }
 
 // The first rules of the list, into the first slots of the words.
-fn sized(rt: &impl Print, list: &[u32], rules: usize, words: &mut [u64], slots: usize) -> io::Result<()>
+fn sized(
+    rt: &impl Print,
+    list: &[u32],
+    rules: usize,
+    words: &mut [u64],
+    slots: usize,
+) -> io::Result<()>
     requires { (3 * rules ≤ length list.now) × (slots ≤ length words.old) }
 {
     number(rt, rules)?;
@@ -231,7 +237,13 @@ fn merged(rt: &impl Print, slots: &[u64], given: &[u32], fillers: usize) -> io::
 }
 
 // The same, in a row of fillers that is long enough.
-fn merged_in(rt: &impl Print, slots: &[u64], given: &[u32], fillers: usize, row: &mut [u32]) -> io::Result<()>
+fn merged_in(
+    rt: &impl Print,
+    slots: &[u64],
+    given: &[u32],
+    fillers: usize,
+    row: &mut [u32],
+) -> io::Result<()>
     requires { (fillers ≤ most_given) × (2 * most_given ≤ length row.old) }
 {
     let mut next = [0u32; LONG];

@@ -1,5 +1,5 @@
 -- The invariant: i is at most the length. Assumes nothing.
-use Rattle.std.proofs.Common.{length, ◌-◌, ◌≤◌, ◌≡◌}
+use Rattle.std.proofs.Common.{length, ◌-◌, ◌≤◌}
 use Rattle.sheet.proofs.taken.Given as goal
 
 abbrev pub invariant-loop-i : goal.invariant-loop-i
