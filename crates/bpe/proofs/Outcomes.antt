@@ -8,6 +8,8 @@ use borrow.Author.Tests.{lt-ltb, le-ltb, ltb-true, ltb-false, eq-eqb, ne_eqb}
 use lib.Dec.{ltb, eqb}
 use lib.ListN.{length, get_or, replicate, length-map}
 use lib.Seq.{ext_get_or}
+use Rattle.std.proofs.Common.{Option, None, Some, MatchOption}
+use Rattle.token.proofs.Ids.{IsFirst}
 use Rattle.token.specs.Limits.{top, no_id, most_row}
 use Rattle.token.specs.Ids.{Legal, first_too_large}
 use Rattle.token.specs.Refusals.{Verdict, fine, refused, verdict}
@@ -102,6 +104,18 @@ through_at ids (b ∷ bytes) (suc i) l = through_at ids bytes i (omega arith)
 
 pub through_is : (ids bytes row : List ℕ) → length row ≡ length bytes → ((i : ℕ) → i < length bytes → get_or row i 0 ≡ get_or ids (get_or bytes i 0) 0) → row ≡ through ids bytes
 through_is ids bytes row e f = ext_get_or 0 row (through ids bytes) (e ∙ sym (through_long ids bytes)) (λ i l. let m : i < length bytes = omega arith in f i m ∙ sym (through_at ids bytes i m))
+
+-- a search through the map is one over the ids
+pub first_through : (ids bytes : List ℕ) (r : Option ℕ)
+    → MatchOption r ((k : ℕ) → k < length bytes → get_or ids (get_or bytes k 0) 0 ≤ top)
+    (λ i. (i < length bytes) × (top < get_or ids (get_or bytes i 0) 0) × ((k : ℕ) → k < i → get_or ids (get_or bytes k 0) 0 ≤ top))
+    → IsFirst (through ids bytes) r
+first_through ids bytes None h = λ k l. let m : k < length bytes = rw (through_long ids bytes) at l in rw (through_at ids bytes k m) (h k m)
+first_through ids bytes (Some i) h = (
+  rw (through_long ids bytes) h.0,
+  rw (through_at ids bytes i h.0) h.1,
+  λ k l. let m : k < length bytes = omega (arith, h.0) in rw (through_at ids bytes k m) (h.2 k l),
+)
 
 -- ---- the verdicts
 

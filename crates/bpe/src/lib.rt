@@ -2,7 +2,7 @@
 #![tactic(auto)]
 
 ghost use Rattle.std.specs.Prelude.{◌≡◌, ◌++◌, ◌≤◌, length, drop};
-ghost use Rattle.token.specs.Ids.{first_too_large};
+ghost use Rattle.token.specs.Ids.{first_too_large, index_in};
 ghost use Rattle.pairs.specs.Rank.{rank_of};
 ghost use Rattle.bpe.specs.Limits.{map_length};
 ghost use Rattle.bpe.specs.Calls.{unfit as is_unfit, through, used, MergesRow, MergesBytes};
@@ -89,27 +89,20 @@ pub fn bpe_merge_symbols_by_rank(
     if unfit(slots.len(), n, next.len(), prev.len(), heap.len()) {
         return Merged::Refused(Refusal::WrongShape);
     }
-    let at = token::first_too_large(row);
-    if at < n {
+    if let Some(at) = token::first_too_large(row) {
         return Merged::Refused(Refusal::IdTooLarge(at));
     }
     Merged::Count(merge_row(slots, row, next, prev, heap))
 }
 
-// The place of the first byte whose id is too large, or the byte count.
-fn first_large_byte(map: &[u32], bytes: &[u8]) -> usize
+// The place of the first byte whose id is too large.
+fn first_large_byte(map: &[u32], bytes: &[u8]) -> Option<usize>
     requires { length map.now ≡ map_length }
-    ensures { result ≡ first_too_large (through map.now bytes.now) }
+    ensures { result ≡ index_in (through map.now bytes.now) (first_too_large (through map.now bytes.now)) }
 {
-    let mut i = 0;
-    while i < bytes.len() {
-        let b = wide(bytes[i]);
-        if map[b] > TokenId::MAX {
-            return i;
-        }
-        i += 1;
-    }
-    i
+    bytes
+        .iter()
+        .position(|b| map[usize::from(*b)] > TokenId::MAX)
 }
 
 pub(crate) fn wide(x: u8) -> usize
@@ -160,8 +153,7 @@ pub fn simple_bpe_merge(
     if unfit(slots.len(), n, next.len(), prev.len(), heap.len()) {
         return Merged::Refused(Refusal::WrongShape);
     }
-    let at = first_large_byte(map, bytes);
-    if at < n {
+    if let Some(at) = first_large_byte(map, bytes) {
         return Merged::Refused(Refusal::IdTooLarge(at));
     }
     map_bytes(map, bytes, row);

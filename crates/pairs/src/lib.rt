@@ -331,8 +331,7 @@ pub fn build(list: &[u32], vocab_len: usize, slots: &mut [u64]) -> Built
     if !wanted(rules, slots.len()) {
         return Built::Refused(Refusal::WrongShape);
     }
-    let at = token::first_too_large(list);
-    if at < list.len() {
+    if let Some(at) = token::first_too_large(list) {
         return Built::Refused(Refusal::IdTooLarge(at));
     }
     clear(slots);

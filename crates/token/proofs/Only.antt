@@ -1,10 +1,11 @@
 -- No second outcome: what a promise says determines the answer. Assumes nothing.
-use Rattle.std.proofs.Common.{◌≡◌, ℕ, ◌*◌, ◌%◌, ◌^◌, Bool, cond, eqb, leb, List, sym, refl, ap, ◌∙◌, ap₂}
+use Rattle.std.proofs.Common.{◌≡◌, ℕ, ◌*◌, ◌%◌, ◌^◌, Bool, cond, eqb, leb, List, Option, sym, refl, ap, ◌∙◌, ap₂}
 use Rattle.token.specs.declared.Refusal.{Refusal}
 use Rattle.token.specs.declared.Refusal.TheVariants.{CountTooLarge, WrongShape, IdTooLarge, PairRepeated, TooFar, ByteMissing, KeyZero, AlreadyStored, LoadLimit, NoEmptySlot, OtherSlot}
 use Rattle.token.specs.declared.TokenId.{TokenId}
 use Rattle.token.specs.Limits.{top, no_id}
-use Rattle.token.specs.Ids.{first_too_large}
+use Rattle.token.specs.Ids.{first_too_large, index_in}
+use Rattle.token.specs.Sizes.{power_within}
 use Rattle.token.specs.Refusals.{number, place, verdict}
 
 -- two answers that are both the one that the promise gives are the same
@@ -60,8 +61,11 @@ only_Refusal_number f s t p q = only p q
 pub only_Refusal_place : (f : Refusal) (s t : ℕ) → s ≡ place f → t ≡ place f → s ≡ t
 only_Refusal_place f s t p q = only p q
 
-pub only_first_too_large : (row : List ℕ) (s t : ℕ) → s ≡ first_too_large row → t ≡ first_too_large row → s ≡ t
+pub only_first_too_large : (row : List ℕ) (s t : Option ℕ) → s ≡ index_in row (first_too_large row) → t ≡ index_in row (first_too_large row) → s ≡ t
 only_first_too_large row s t p q = only p q
 
 pub only_low_product : (a b s t : ℕ) → s ≡ (a * b) % 2 ^ 64 → t ≡ (a * b) % 2 ^ 64 → s ≡ t
 only_low_product a b s t p q = only p q
+
+pub only_is_power_within : (n least most : ℕ) (s t : Bool) → s ≡ power_within least most n → t ≡ power_within least most n → s ≡ t
+only_is_power_within n least most s t p q = only p q

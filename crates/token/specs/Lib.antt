@@ -1,3 +1,5 @@
 pub mod Limits
 pub mod Ids
 pub mod Refusals
+pub mod Printed
+pub mod Sizes

@@ -1,13 +1,18 @@
 // Ids and the numbers that bound them, the refusals of every call, and the low word of a product.
 #![tactic(auto)]
 
-ghost use Rattle.std.specs.Prelude.{◌≡◌, ◌*◌, ◌%◌, ◌^◌, nat_le};
+ghost use Rattle.std.specs.Prelude.{◌≡◌, ◌*◌, ◌%◌, ◌^◌, nat_le, Some};
 ghost use Rattle.token.specs.Limits.{top, no_id};
-ghost use Rattle.token.specs.Ids.{first_too_large};
+ghost use Rattle.token.specs.Ids.{first_too_large, index_in};
+ghost use Rattle.token.specs.Sizes.{power_within};
 ghost use Rattle.token.specs.Refusals.{number as number_of, place as place_of};
+ghost use Rattle.token.specs.Printed.{refusal_text};
+
+use std::error::Error;
+use std::fmt;
 
 // An id, or none.
-#[derive(Clone, Copy)]
+#[derive(Clone, Copy, PartialEq, Eq, Debug)]
 pub struct TokenId(pub u32);
 
 impl TokenId {
@@ -47,7 +52,7 @@ impl TokenId {
 }
 
 // Why a call did not do what it was asked, in the order of the numbers.
-#[derive(Clone, Copy)]
+#[derive(Clone, Copy, PartialEq, Eq, Debug)]
 pub enum Refusal {
     CountTooLarge,
     WrongShape,
@@ -66,8 +71,7 @@ impl Refusal {
     pub fn number(self) -> u8
         ensures { result ≡ number_of self }
     {
-        let f = self;
-        match f {
+        match self {
             Refusal::CountTooLarge => 1,
             Refusal::WrongShape => 2,
             Refusal::IdTooLarge(_) => 3,
@@ -85,35 +89,43 @@ impl Refusal {
     pub fn place(self) -> usize
         ensures { result ≡ place_of self }
     {
-        let f = self;
-        match f {
-            Refusal::CountTooLarge => 0,
-            Refusal::WrongShape => 0,
+        match self {
             Refusal::IdTooLarge(index) => index,
             Refusal::PairRepeated(rule) => rule,
             Refusal::TooFar(rule) => rule,
-            Refusal::ByteMissing(byte) => byte as usize,
-            Refusal::KeyZero => 0,
+            Refusal::ByteMissing(byte) => usize::from(byte),
             Refusal::AlreadyStored(slot) => slot,
-            Refusal::LoadLimit => 0,
-            Refusal::NoEmptySlot => 0,
             Refusal::OtherSlot(slot) => slot,
+            _ => 0,
         }
     }
 }
 
-// The index of the first number that is too large for an id, or the length.
-pub fn first_too_large(row: &[u32]) -> usize
-    ensures { result ≡ first_too_large row.now }
-{
-    let mut i = 0;
-    while i < row.len() {
-        if row[i] > TokenId::MAX {
-            return i;
-        }
-        i += 1;
+impl fmt::Display for Refusal {
+    ghost output = { λ f. Some (refusal_text f) };
+
+    fn fmt<W: fmt::Write>(&self, f: &mut fmt::Formatter<W>) -> fmt::Result {
+        let number = self.number();
+        let place = self.place();
+        write!(f, "refused by {number} at {place}")
     }
-    i
+}
+
+impl Error for Refusal {}
+
+// The index of the first number that is too large for an id.
+pub fn first_too_large(row: &[u32]) -> Option<usize>
+    ensures { result ≡ index_in row.now (first_too_large row.now) }
+{
+    row.iter().position(|id| *id > TokenId::MAX)
+}
+
+// Is n a power of two from the least to the most? Tables have so many slots.
+#[tactic(auto, unfolding(crate::specs::Sizes::power_within))]
+pub fn is_power_within(n: usize, least: usize, most: usize) -> bool
+    ensures { result ≡ power_within least most n }
+{
+    n.count_ones() == 1 && least <= n && n <= most
 }
 
 // The low 64 bits of a * b, by wrapping additions.
@@ -125,10 +137,10 @@ pub fn low_product(a: u64, b: u64) -> u64
     let mut y = b;
     while y != 0 {
         if y & 1 == 1 {
-            acc = std::num::wrapping_add_u64(acc, x);
+            acc = acc.wrapping_add(x);
         }
-        x = std::num::wrapping_add_u64(x, x);
-        y = y >> 1;
+        x = x.wrapping_add(x);
+        y >>= 1;
     }
     acc
 }

@@ -16,7 +16,7 @@ loop-y-preserved c =
     elim c.if-y-eq1.branch [
       | then-y-eq1 w ↦
           let one : l.y % 2 ≡ 1 = sym bit ∙ w.if-y-eq1.true in
-          w.acc-is ∙ w.wrapping_add_u64-acc.ensures.value
+          w.acc-is
           ∙ ap (λ (n : ℕ). (l.acc + n) % 2 ^ 64) (sym (ap (λ (n : ℕ). n * l.x) one ∙ one-mul l.x))
       | else-y-eq1 w ↦
           let q = w.if-y-eq1.false in
@@ -27,7 +27,7 @@ loop-y-preserved c =
           ∙ mod-eq_of_lt l.invariant.0)
     ] in (
       omega (arith, acc),
-      simp (acc, c.wrapping_add_u64-x.ensures.value) (turn (2 ^ 64) l.acc l.x l.y ∙ l.invariant.1),
+      simp acc (turn (2 ^ 64) l.acc l.x l.y ∙ l.invariant.1),
     )
 
 pub returns : goal.returns
