@@ -1,14 +1,6 @@
 -- What an accepted vocabulary has: only bytes of the thirteen are missing, and every id of its map is one. Assumes nothing.
-use mathlib.Core.Path.{◌≡◌, refl, sym, ap, ◌∙◌}
-use mathlib.Core.Bool.{Bool, true, false, cond}
-use mathlib.Core.List.{List, [], ◌∷◌}
-use Prim.Native.Nat.{ℕ, zero, suc, ◌+◌, ◌≤◌, ◌<◌}
-use native.Mathlib.Nat.{add-zero, zero-add}
-use native.Mathlib.Omega.{arith}
-use lib.Dec.{ltb}
-use lib.ListN.{length, get_or, replicate}
-use borrow.Author.Tests.{le-ltb, ltb-false}
-use Rattle.token.specs.Limits.{top, most_entries}
+use Rattle.std.proofs.Common.{◌≡◌, ℕ, zero, suc, ◌+◌, ◌≤◌, ◌<◌, Bool, true, false, cond, eqb, ltb, List, [], ◌∷◌, length, get_or, replicate, Option, None, Some, MatchOption, refl, sym, ap, ◌∙◌, add-zero, zero-add, arith, le-ltb, ltb-false}
+use Rattle.token.specs.Limits.{top, no_id, most_entries}
 use Rattle.token.specs.Ids.{Legal}
 use Rattle.token.specs.Refusals.{Verdict, fine, refused}
 use Rattle.token.proofs.Cases.{by_test}
@@ -16,14 +8,15 @@ use Rattle.remap.specs.Utf8.{utf8}
 use Rattle.remap.specs.Vocabulary.{entries, vocabulary, misshapen}
 use Rattle.remap.specs.Map.{all_bytes, Found, nothing, found, is_byte, id_from, each, ids_of, missing, or_filler, map_of}
 use Rattle.remap.specs.Calls.{lacking, ids, verdict_of, map_under, Remaps}
+use Rattle.remap.specs.Steps.{read, read_all, lacks, told_missing}
 use Rattle.remap.specs.declared.Remapped.{Remapped}
 use Rattle.remap.proofs.Each.{shifted, ids_length, id_at}
 
 ne_fine : {k p : ℕ} → refused k p ≡ fine → ⊥
-ne_fine e = let z : ◌≡◌ {A = ℕ} 0 1 = cc in omega arith
+ne_fine e = cc
 
 ne_nothing : {i : ℕ} → found i ≡ nothing → ⊥
-ne_nothing e = let z : ◌≡◌ {A = ℕ} 0 1 = cc in omega arith
+ne_nothing e = cc
 
 -- where the first of two is not the answer, the test was off
 second : {A : Type 0} (t : Bool) (x y : A) {z : A} → (x ≡ z → ⊥) → cond t x y ≡ z → (t ≡ false) × (y ≡ z)
@@ -51,6 +44,34 @@ unfolding verdict_of
 accepted_fine bytes ends a = rw (le-ltb most_entries (length ends) a.few, a.whole, a.full)
 
 -- ---- what is missing
+
+missing_read : (b x : ℕ) (ids : List Found) (t : Bool) → lacks b x ≡ t → missing b (read x ∷ ids) ≡ cond t (found b) (missing (suc b) ids)
+missing_read b x ids t e =
+    by_test (eqb x no_id)
+    (λ f. let u : utf8 b ≡ t = rw f at e in rw (f, u))
+    (λ f. let u : false ≡ t = rw f at e in rw (f, ← u))
+
+missing_nowhere : (m : List ℕ) (b : ℕ) → ((k : ℕ) → k < length m → lacks (b + k) (get_or m k 0) ≡ false) → missing b (read_all m) ≡ nothing
+missing_nowhere [] b h = refl
+missing_nowhere (x ∷ m) b h =
+    missing_read b x (read_all m) false (rw add-zero at (h 0 (omega arith))) ∙ missing_nowhere m (suc b) (λ k l. rw (shifted b k) (h (suc k) (omega arith)))
+
+missing_first : (m : List ℕ) (b k : ℕ) → k < length m → lacks (b + k) (get_or m k 0) ≡ true
+    → ((j : ℕ) → j < k → lacks (b + j) (get_or m j 0) ≡ false) → missing b (read_all m) ≡ found (b + k)
+missing_first [] b k l e h = absurd (omega arith)
+missing_first (x ∷ m) b zero l e h = rw add-zero (missing_read b x (read_all m) true (rw add-zero at e))
+missing_first (x ∷ m) b (suc k) l e h =
+    missing_read b x (read_all m) false (rw add-zero at (h 0 (omega arith)))
+    ∙ missing_first m (suc b) k (omega arith) (rw (shifted b k) e) (λ j s. rw (shifted b j) (h (suc j) (omega arith)))
+    ∙ ap found (shifted b k)
+
+-- what a search for a byte that lacks an id says: no byte does, or b does, and none before it
+pub missing_by : (m : List ℕ) (r : Option ℕ)
+    → MatchOption r ((k : ℕ) → k < length m → lacks k (get_or m k 0) ≡ false)
+    (λ b. (b < length m) × (lacks b (get_or m b 0) ≡ true) × ((k : ℕ) → k < b → lacks k (get_or m k 0) ≡ false))
+    → told_missing r ≡ missing 0 (read_all m)
+missing_by m None h = sym (missing_nowhere m 0 (λ k l. rw zero-add (h k l)))
+missing_by m (Some b) h = sym (missing_first m 0 b h.0 (rw zero-add h.1) (λ k l. rw zero-add (h.2 k l)) ∙ ap found (zero-add b))
 
 missing_at : (l : List Found) (b k : ℕ) → missing b l ≡ nothing → k < length l → get_or l k nothing ≡ nothing → utf8 (b + k) ≡ false
 missing_at [] b k e s h = absurd (omega arith)

@@ -1,9 +1,6 @@
 -- The thirteen bytes by ranges, and against the grammar of RFC 3629, each by one test at all bytes. Assumes nothing.
-use mathlib.Core.Path.{◌≡◌, refl}
-use mathlib.Core.Bool.{Bool, true, false, not, ◌&&◌, ◌||◌, beq, false≢true}
-use Prim.Native.Nat.{ℕ, zero, suc, ◌<◌}
-use native.Mathlib.Omega.{arith}
-use lib.Dec.{leb, ltb}
+use Rattle.std.proofs.Common.{◌≡◌, refl, Bool, true, false, not, ◌&&◌, ◌||◌, ℕ, zero, suc, ◌<◌, arith, leb, ltb}
+use mathlib.Core.Bool.{beq, false≢true}
 use Rattle.token.proofs.Cases.{by_equal}
 use Rattle.remap.specs.Utf8.{utf8}
 use Rattle.remap.specs.Map.{all_bytes}

@@ -1,8 +1,5 @@
 -- Small vocabularies, computed from the definitions. Assumes nothing.
-use mathlib.Core.Path.{◌≡◌, refl}
-use mathlib.Core.Bool.{true, false}
-use mathlib.Core.List.{[], ◌∷◌}
-use lib.ListN.{length}
+use Rattle.std.proofs.Common.{◌≡◌, refl, true, false, [], ◌∷◌, length}
 use Rattle.token.specs.Refusals.{refused}
 use Rattle.remap.specs.Utf8.{unused, utf8}
 use Rattle.remap.specs.Vocabulary.{vocabulary, misshapen}

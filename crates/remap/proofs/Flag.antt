@@ -1,13 +1,5 @@
 -- The flag: off exactly where the map is the identity, set by any missing byte. Assumes nothing.
-use mathlib.Core.Path.{◌≡◌, refl, sym, ap, ◌∙◌}
-use mathlib.Core.Bool.{true, false, true≢false}
-use mathlib.Core.List.{List, [], ◌∷◌, ◌++◌}
-use Prim.Native.Nat.{ℕ, zero, suc, ◌+◌, ◌≤◌, ◌<◌}
-use native.Mathlib.Nat.{add-zero, zero-add}
-use native.Mathlib.Omega.{arith}
-use lib.Dec.{eqb}
-use lib.ListN.{length, get_or}
-use borrow.Author.Tests.{eq-eqb, ne_eqb, eqb-true}
+use Rattle.std.proofs.Common.{◌≡◌, ◌≢◌, ℕ, zero, suc, ◌+◌, ◌≤◌, ◌<◌, Bool, true, false, eqb, List, [], ◌∷◌, ◌++◌, length, get_or, MatchBool, refl, sym, ap, ◌∙◌, true≢false, add-zero, zero-add, arith, eq-eqb, ne_eqb, eqb-true}
 use Rattle.token.specs.Limits.{most_entries}
 use Rattle.token.specs.Refusals.{fine}
 use Rattle.token.proofs.Cases.{by_test}
@@ -39,6 +31,13 @@ differs_at [] b k l h = absurd (omega arith)
 differs_at (x ∷ m) b zero l h = rw (ne_eqb x b (λ e. h (e ∙ sym (add-zero b))))
 differs_at (x ∷ m) b (suc k) l h =
     by_test (eqb x b) (λ t. rw t (differs_at m (suc b) k (omega arith) (λ e. h (e ∙ shifted b k)))) (λ t. rw t)
+
+-- what a search for a difference says: a byte has another number as its id, or each has its own
+pub differs_by : (m : List ℕ) (r : Bool)
+    → MatchBool r ((k : ℕ) × (k < length m) × (get_or m k 0 ≢ k)) ((k : ℕ) → k < length m → get_or m k 0 ≡ k) → r ≡ differs 0 m
+differs_by m true h = sym (differs_at m 0 h.0 h.1 (λ e. h.2 (e ∙ zero-add h.0)))
+differs_by m false h =
+    sym (ap (differs 0) (each_is (λ (x : ℕ). x) 0 m 0 (λ k l. h k l ∙ sym (zero-add k))) ∙ identity_off 0 (length m))
 
 -- the filler, as a byte, is not of the thirteen
 filler_used : utf8 filler ≡ true

@@ -1,15 +1,8 @@
 -- One entry after the other gives its byte an id, unless the byte has one. Assumes nothing.
-use mathlib.Core.Path.{◌≡◌, refl, sym, ap, ◌∙◌}
-use mathlib.Core.Bool.{false, cond}
-use mathlib.Core.List.{List, [], ◌∷◌}
-use Prim.Native.Nat.{ℕ, suc, ◌+◌, ◌-◌, ◌≤◌, ◌<◌}
-use native.Mathlib.Nat.{zero-add}
-use native.Mathlib.Numerals.{add-one}
-use native.Mathlib.Omega.{arith}
-use lib.Dec.{eqb}
-use lib.ListN.{length, get_or, drop, replicate, length-set, length-replicate, get_or-replicate, length-map, get_or-map}
-use lib.Seq.{slice, slice-cons, slice_empty, length-slice, drop-cons, drop-length, get_or-set_same, get_or-set_other}
-use borrow.Author.Tests.{eq-eqb, ne_eqb, eqb-true, eqb-false}
+use Rattle.std.proofs.Common.{◌≡◌, refl, sym, ap, ◌∙◌, false, cond, List, [], ◌∷◌, ℕ, suc, ◌+◌, ◌-◌, ◌≤◌, ◌<◌, zero-add, add-one, arith, eqb, length, get_or, drop, replicate, length-set, drop-cons, get_or-set_same, get_or-set_other, eq-eqb, ne_eqb, eqb-true}
+use lib.ListN.{length-replicate, get_or-replicate, length-map, get_or-map}
+use lib.Seq.{slice, slice-cons, slice_empty, length-slice, drop-length}
+use borrow.Author.Tests.{eqb-false}
 use Rattle.token.specs.Limits.{no_id}
 use Rattle.token.proofs.Cases.{by_test, by_equal}
 use Rattle.remap.specs.Vocabulary.{entries, vocabulary, misshapen}
@@ -55,12 +48,12 @@ pub record Going (bytes ends m : List ℕ) (start i : ℕ) : Type 0 where
   pub left : (b : ℕ) → b < all_bytes
       → id_from 0 (vocabulary bytes ends) b ≡ seen (get_or m b 0) (id_from i (entries bytes start (drop i ends)) b)
 
-pub begun : (bytes ends m : List ℕ) → misshapen (length bytes) ends ≡ false → m ≡ replicate all_bytes no_id → Going bytes ends m 0 0
-begun bytes ends m good e = record {
+pub begun : (bytes ends : List ℕ) → misshapen (length bytes) ends ≡ false → Going bytes ends (replicate all_bytes no_id) 0 0
+begun bytes ends good = record {
   within = omega arith;
-  long = ap length e ∙ length-replicate all_bytes no_id;
+  long = length-replicate all_bytes no_id;
   good = sym (bad_all (length bytes) ends) ∙ good;
-  left = λ b l. rw (e, get_or-replicate all_bytes b no_id 0 l);
+  left = λ b l. rw (get_or-replicate all_bytes b no_id 0 l);
 }
 
 module _ (bytes ends m : List ℕ) (start i : ℕ) (g : Going bytes ends m start i) (l : i < length ends) where
@@ -105,13 +98,13 @@ module _ (bytes ends m : List ℕ) (start i : ℕ) (g : Going bytes ends m start
       (λ b s later. rw (other_length b (slice start (get_or ends i 0) bytes) (λ q. longer (sym (length-slice start (get_or ends i 0) bytes inside) ∙ q))))
 
   -- the state after the entry, by its length
-  pub turn : (m' : List ℕ) → get_or bytes start 0 < all_bytes → i < no_id
+  pub turn : (m' : List ℕ) (start' : ℕ) → get_or bytes start 0 < all_bytes → i < no_id → start' ≡ get_or ends i 0
       → (get_or ends i 0 - start ≡ 1 → m' ≡ give m (get_or bytes start 0) i) → ((get_or ends i 0 - start ≡ 1 → ⊥) → m' ≡ m)
-      → Going bytes ends m' (get_or ends i 0) (i + 1)
-  turn m' small few one longer =
+      → Going bytes ends m' start' (i + 1)
+  turn m' start' small few at one longer =
       by_equal (get_or ends i 0 - start) 1
-      (λ e. rw (one e) (one_byte e small few))
-      (λ n. rw (longer n) (other n))
+      (λ e. rw (at, one e) (one_byte e small few))
+      (λ n. rw (at, longer n) (other n))
 
 -- after the last entry the map has all ids
 pub ended : (bytes ends m : List ℕ) (start i : ℕ) → Going bytes ends m start i → i ≡ length ends → read_all m ≡ ids bytes ends

@@ -2,7 +2,7 @@ pub mod Bytes
 pub mod Ends
 pub mod Each
 pub mod Giving
-pub mod Turns
+pub mod Filling
 pub mod Ways
 pub mod Accepted
 pub mod Flag

@@ -1,27 +1,22 @@
 -- No second outcome: what a promise says determines the answer. Assumes nothing.
-use mathlib.Core.Path.{◌≡◌, refl, ap}
-use mathlib.Core.Bool.{Bool}
-use mathlib.Core.List.{List}
-use Prim.Native.Nat.{ℕ}
-use native.Mathlib.Omega.{arith}
+use Rattle.std.proofs.Common.{◌≡◌, ℕ, Bool, List, Result, Ok, Err, refl, ap}
+use Rattle.token.specs.declared.Refusal.{Refusal}
 use Rattle.token.proofs.Only.{only, only_refusal}
 use Rattle.remap.specs.Utf8.{utf8}
 use Rattle.remap.specs.Calls.{told, Remaps}
 use Rattle.remap.specs.declared.Remapped.{Remapped}
-use Rattle.remap.specs.declared.Verdict.{Verdict}
-use Rattle.remap.specs.declared.Verdict.TheVariants.{Fine, Refused}
 
 pub only_is_valid_utf8_byte : (b : ℕ) (s t : Bool) → s ≡ utf8 b → t ≡ utf8 b → s ≡ t
 only_is_valid_utf8_byte b s t p q = only p q
 
 -- two verdicts that say the same are the same
-only_verdict : (v w : Verdict) → told v ≡ told w → v ≡ w
-only_verdict Fine Fine e = refl
-only_verdict Fine (Refused g) e = absurd (let z : ◌≡◌ {A = ℕ} 0 1 = cc in omega arith)
-only_verdict (Refused f) Fine e = absurd (let z : ◌≡◌ {A = ℕ} 0 1 = cc in omega arith)
-only_verdict (Refused f) (Refused g) e = ap Refused (only_refusal f g e)
+only_verdict : (v w : Result (Unit {0}) Refusal) → told v ≡ told w → v ≡ w
+only_verdict (Ok x) (Ok y) e = refl
+only_verdict (Ok x) (Err g) e = cc
+only_verdict (Err f) (Ok y) e = cc
+only_verdict (Err f) (Err g) e = ap Err (only_refusal f g e)
 
-answer : List ℕ → Bool → Verdict → Remapped
+answer : List ℕ → Bool → Result (Unit {0}) Refusal → Remapped
 answer m d v = record { map = record { mapping = m }; differs = d; verdict = v }
 
 pub only_ByteRemapping_from_byte_vocab : (bytes ends : List ℕ) (s t : Remapped) → Remaps bytes ends s → Remaps bytes ends t → s ≡ t

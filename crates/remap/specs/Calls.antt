@@ -1,17 +1,16 @@
 -- What `from_byte_vocab` promises. Assumes nothing.
-use Rattle.std.specs.Prelude.{◌≡◌, Bool, false, cond, List, ℕ, ltb, length, replicate}
+use Rattle.std.specs.Prelude.{◌≡◌, Bool, false, cond, List, ℕ, ltb, length, replicate, Result, Ok, Err}
+use Rattle.token.specs.declared.Refusal.{Refusal}
 use Rattle.token.specs.Limits.{most_entries}
 use Rattle.token.specs.Refusals.{Verdict, fine, refused, verdict}
 use Rattle.remap.specs.Vocabulary.{vocabulary, misshapen}
 use Rattle.remap.specs.Map.{all_bytes, Found, nothing, found, ids_of, missing, map_of, differs}
 use Rattle.remap.specs.declared.Remapped.{Remapped}
-use Rattle.remap.specs.declared.Verdict as code
-use Rattle.remap.specs.declared.Verdict.TheVariants as said
 
--- the code's verdict as the table's
-abbrev pub told : code.Verdict → Verdict
-told said.Fine = fine
-told (said.Refused why) = verdict why
+-- the code's answer as the table's verdict
+abbrev pub told : {A : Type 0} → Result A Refusal → Verdict
+told (Ok x) = fine
+told (Err why) = verdict why
 
 -- where a byte of UTF-8 has no entry, the lowest such byte is named
 abbrev pub lacking : Found → Verdict

@@ -1,19 +1,16 @@
 -- What the inner functions promise. Assumes nothing.
-use Rattle.std.specs.Prelude.{◌≡◌, Bool, false, cond, ◌&&◌, List, map, ℕ, ◌≤◌, eqb, length, get_or, set, replicate}
+use Rattle.std.specs.Prelude.{◌≡◌, Bool, false, cond, ◌&&◌, List, map, ℕ, ◌≤◌, eqb, length, get_or, set, Option, None, Some, Err}
 use Rattle.token.specs.Limits.{no_id, most_entries}
 use Rattle.token.specs.declared.Refusal.{Refusal}
 use Rattle.remap.specs.Utf8.{utf8}
 use Rattle.remap.specs.Vocabulary.{misshapen}
-use Rattle.remap.specs.Map.{all_bytes, Found, nothing, found}
+use Rattle.remap.specs.Map.{Found, nothing, found}
 use Rattle.remap.specs.Calls.{zeros}
 use Rattle.remap.specs.declared.Remapped.{Remapped}
-use Rattle.remap.specs.declared.Verdict.TheVariants as said
-use Rattle.remap.specs.declared.Missing.{Missing}
-use Rattle.remap.specs.declared.Missing.TheVariants as lowest
 
 -- the answer of a refused call
 abbrev pub refused_by : Refusal → Remapped
-refused_by why = record { map = record { mapping = zeros }; differs = false; verdict = said.Refused why }
+refused_by why = record { map = record { mapping = zeros }; differs = false; verdict = Err why }
 
 -- a map while it is made: none stands where there is no id yet
 abbrev pub read : ℕ → Found
@@ -32,12 +29,11 @@ abbrev pub lacks : ℕ → ℕ → Bool
 lacks b id = eqb id no_id && utf8 b
 
 -- the code's answer as what was found
-abbrev pub told_missing : Missing → Found
-told_missing (lowest.Byte b) = found b
-told_missing lowest.Nothing = nothing
+abbrev pub told_missing : Option ℕ → Found
+told_missing (Some b) = found b
+told_missing None = nothing
 
--- a vocabulary that is not refused 1 or 2, and a map with no id yet
-pub record Scannable (bytes ends m : List ℕ) : Type 0 where
+-- a vocabulary that is not refused 1 or 2
+pub record Scannable (bytes ends : List ℕ) : Type 0 where
   pub few : length ends ≤ most_entries
   pub whole : misshapen (length bytes) ends ≡ false
-  pub unset : m ≡ replicate all_bytes no_id
