@@ -1,12 +1,6 @@
 -- What it means that a list is accepted, and what lookup then answers. Assumes nothing.
-use mathlib.Core.Path.{◌≡◌, refl, sym, ap, ◌∙◌}
-use mathlib.Core.Bool.{true}
-use mathlib.Core.List.{List}
-use Prim.Native.Nat.{ℕ, ◌/◌, ◌%◌, ◌≤◌}
-use native.Mathlib.Omega.{arith}
-use lib.Dec.{ltb}
-use lib.ListN.{length, replicate, length-replicate, get_or-replicate}
-use borrow.Author.Tests.{ltb-false}
+use Rattle.std.proofs.Common.{◌≡◌, refl, sym, ap, ◌∙◌, true, List, ℕ, ◌/◌, ◌%◌, ◌≤◌, arith, ltb, length, replicate, ltb-false}
+use lib.ListN.{length-replicate, get_or-replicate}
 use Rattle.merging.specs.Merging.{nothing}
 use Rattle.token.specs.Limits.{top, most_entries}
 use Rattle.token.specs.Ids.{Legal, first_too_large}
@@ -52,7 +46,7 @@ pub record Tested (list : List ℕ) (vocab n : ℕ) : Type 0 where
   pub stored : refused_by (filled list n) ≡ fine
 
 not_fine : {A : Type 0} {k p : ℕ} → refused k p ≡ fine → A
-not_fine {A} {k} {p} e = absurd (let z : ◌≡◌ {A = ℕ} 0 1 = cc in omega arith)
+not_fine e = cc
 
 pub accepted : (list : List ℕ) (vocab n : ℕ) → Accepted list vocab n → Tested list vocab n
 unfolding refusal_of

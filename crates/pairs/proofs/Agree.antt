@@ -1,8 +1,5 @@
 -- Merging over a built table is merging over its list. Assumes nothing.
-use mathlib.Core.Path.{◌≡◌, refl}
-use mathlib.Core.List.{List, [], ◌∷◌}
-use Prim.Native.Nat.{ℕ, ◌≤◌}
-use native.Mathlib.Omega.{arith}
+use Rattle.std.proofs.Common.{◌≡◌, refl, List, [], ◌∷◌, ℕ, ◌≤◌, arith}
 use Rattle.token.specs.Limits.{top}
 use Rattle.token.specs.Ids.{Legal}
 use Rattle.merging.specs.Merging.{rule, merge, AllUpTo, StaysUpTo}
@@ -32,10 +29,6 @@ look_stays s a b p m la lb e = (look_small s a b p m e).1
 pub up_to_top : (row : List ℕ) → Legal row → AllUpTo top row
 up_to_top [] l = tt
 up_to_top (x ∷ row) l = (l.0, up_to_top row l.1)
-
-pub legal_up_to : (row : List ℕ) → AllUpTo top row → Legal row
-legal_up_to [] l = tt
-legal_up_to (x ∷ row) l = (l.0, legal_up_to row l.1)
 
 -- an accepted list merges a row of ids as its table does
 pub table_merges : (list : List ℕ) (vocab n : ℕ) → Accepted list vocab n

@@ -1,64 +1,23 @@
 -- The ways out of `build`, and what `rank` answers over a built table. Assumes nothing.
-use mathlib.Core.Path.{◌≡◌, refl, sym, ap, ◌∙◌}
-use mathlib.Core.Logic.{◌≢◌, ◌⊎◌, inl, inr, ⊎_elim}
-use mathlib.Core.Bool.{true, false}
-use mathlib.Core.List.{List, [], ◌∷◌}
-use Prim.Native.Nat.{ℕ, suc, ◌/◌, ◌%◌, ◌≤◌, ◌<◌}
-use native.Mathlib.Omega.{arith}
-use lib.ListN.{length, set, length-set, replicate, length-replicate}
-use borrow.Author.Tests.{lt-ltb, le-ltb}
+use Rattle.std.proofs.Common.{cond, ltb, ◌≡◌, refl, sym, ap, ◌∙◌, ◌≢◌, ◌⊎◌, inl, inr, ⊎_elim, true, false, List, [], ◌∷◌, ℕ, suc, ◌/◌, ◌%◌, ◌≤◌, ◌<◌, arith, length, set, length-set, replicate, lt-ltb, le-ltb, Some, None, Result, Ok, Err}
+use lib.ListN.{length-replicate}
 use Rattle.token.specs.Limits.{top, most_entries}
-use Rattle.token.specs.Ids.{Legal, first_too_large}
+use Rattle.token.specs.Ids.{first_too_large, index_in}
 use Rattle.token.specs.Refusals.{fine, refused, verdict}
 use Rattle.token.specs.declared.Refusal.{Refusal}
-use Rattle.token.specs.declared.Refusal.TheVariants.{CountTooLarge}
-use Rattle.token.proofs.Ids.{legal_all}
+use Rattle.token.specs.declared.Refusal.TheVariants.{CountTooLarge, WrongShape, IdTooLarge}
+use Rattle.token.proofs.Ids.{legal_all, found_first, found_none}
 use Rattle.merging.specs.Lists.{look_of}
 use Rattle.pairs.specs.Limits.{vacant, most_rules}
 use Rattle.pairs.specs.Key.{key, packed}
 use Rattle.pairs.specs.Walk.{near}
 use Rattle.pairs.specs.Table.{look, wanted, Filled, slots, bad, fill, filled}
 use Rattle.pairs.specs.Calls.{refusal_of, refused_by, slots_of, table_of, after, Builds, ranks, ranking_of}
-use Rattle.pairs.specs.Steps.{Fills}
-use Rattle.pairs.specs.declared.Built.{Built}
-use Rattle.pairs.specs.declared.Built.TheVariants as built
+use Rattle.pairs.specs.Steps.{Fillable, Fills}
 use Rattle.pairs.proofs.Walks.{by_walk}
 use Rattle.pairs.proofs.Size.{wanted_sized}
 use Rattle.pairs.proofs.Accept.{accepted, accepted_look}
 use Rattle.pairs.proofs.Ranks.{fitting, rank_found}
-
--- ---- refusals, in their order
-
-module _ (list : List ℕ) (vocab n : ℕ) where
-  pub too_many : most_rules < length list / 3 → refusal_of list vocab n ≡ refused 1 0
-  unfolding refusal_of
-  too_many a = rw (lt-ltb most_rules (length list / 3) a)
-
-  module _ (few : length list / 3 ≤ most_rules) where
-    pub too_wide : most_entries < vocab → refusal_of list vocab n ≡ refused 1 0
-    unfolding refusal_of
-    too_wide a = rw (le-ltb most_rules (length list / 3) few, lt-ltb most_entries vocab a)
-
-    module _ (narrow : vocab ≤ most_entries) where
-      pub not_whole : length list % 3 ≢ 0 → refusal_of list vocab n ≡ refused 2 0
-      unfolding refusal_of
-      not_whole a = rw (le-ltb most_rules (length list / 3) few, le-ltb most_entries vocab narrow, lt-ltb 0 (length list % 3) (omega arith))
-
-      module _ (whole : length list % 3 ≡ 0) where
-        pub not_wanted : wanted (length list / 3) n ≡ false → refusal_of list vocab n ≡ refused 2 0
-        unfolding refusal_of
-        not_wanted a = rw (le-ltb most_rules (length list / 3) few, le-ltb most_entries vocab narrow, le-ltb 0 (length list % 3) (omega arith), a)
-
-        module _ (size : wanted (length list / 3) n ≡ true) where
-          pub too_high : {at : ℕ} → at ≡ first_too_large list → at < length list → refusal_of list vocab n ≡ refused 3 at
-          unfolding refusal_of
-          too_high e a =
-              rw (le-ltb most_rules (length list / 3) few, le-ltb most_entries vocab narrow, le-ltb 0 (length list % 3) (omega arith), size, ← e, lt-ltb _ (length list) a)
-
-          pub by_rules : Legal list → refusal_of list vocab n ≡ refused_by (filled list n)
-          unfolding refusal_of
-          by_rules a =
-              rw (le-ltb most_rules (length list / 3) few, le-ltb most_entries vocab narrow, le-ltb 0 (length list % 3) (omega arith), size, le-ltb (first_too_large list) (length list) (omega (arith, legal_all list a)))
 
 -- ---- what storing the rules can end in
 
@@ -88,23 +47,62 @@ module _ (list : List ℕ) (vocab : ℕ) (s : List ℕ) where
   abbrev Leaves : Refusal → Type 0
   Leaves f = (t : List ℕ) → s ≡ after (verdict f) s t
 
-  pub build_refused : (f : Refusal) → Leaves f → refusal_of list vocab (length s) ≡ verdict f → Builds list vocab s (built.Refused f) s
+  pub build_refused : (f : Refusal) → Leaves f → refusal_of list vocab (length s) ≡ verdict f → Builds list vocab s (Err f) s
   build_refused f l e = record { answer = sym e; left = rw e (l _) }
-
-  -- a vocabulary with too many entries is refused, after a list of too many rules
-  pub wide_refused : length list / 3 ≤ most_rules → most_entries < vocab → Builds list vocab s (built.Refused CountTooLarge) s
-  wide_refused few wide = build_refused CountTooLarge (λ t. refl) (too_wide list vocab (length s) few wide)
 
   left_by : (f : Filled) → Ends (length s) f → slots_of f (length s) ≡ after (refused_by f) s (slots_of f (length s))
   left_by (slots t) h = refl
   left_by (bad k p) h = ⊎_elim (λ e. rw e) (λ e. rw e) h
 
-  pub build_filled : {t : List ℕ} {r : Built} {s' : List ℕ} → length t ≡ length s → refusal_of list vocab (length s) ≡ refused_by (filled list (length s))
-      → Fills list t r s' → Builds list vocab s r s'
-  build_filled l e f = record {
-    answer = (rw l at f.answer) ∙ sym e;
-    left = (rw l at f.left) ∙ rw e (left_by (filled list (length s)) (filled_ends list (length s)));
-  }
+  -- the refusals, in their order
+  pub many_refused : most_rules < length list / 3 → Builds list vocab s (Err CountTooLarge) s
+  unfolding refusal_of
+  many_refused a = build_refused CountTooLarge (λ t. refl) (rw (lt-ltb most_rules (length list / 3) a))
+
+  module _ (few : length list / 3 ≤ most_rules) where
+    pub wide_refused : most_entries < vocab → Builds list vocab s (Err CountTooLarge) s
+    unfolding refusal_of
+    wide_refused a = build_refused CountTooLarge (λ t. refl) (rw (le-ltb most_rules (length list / 3) few, lt-ltb most_entries vocab a))
+
+    module _ (narrow : vocab ≤ most_entries) where
+      pub part_refused : length list % 3 ≢ 0 → Builds list vocab s (Err WrongShape) s
+      unfolding refusal_of
+      part_refused a =
+          build_refused WrongShape (λ t. refl) (rw (le-ltb most_rules (length list / 3) few, le-ltb most_entries vocab narrow, lt-ltb 0 (length list % 3) (omega arith)))
+
+      module _ (whole : length list % 3 ≡ 0) where
+        -- what is refused after these three tests
+        later : refusal_of list vocab (length s)
+            ≡ cond (wanted (length list / 3) (length s))
+            (cond (ltb (first_too_large list) (length list)) (refused 3 (first_too_large list)) (refused_by (filled list (length s))))
+            (refused 2 0)
+        unfolding refusal_of
+        later = rw (le-ltb most_rules (length list / 3) few, le-ltb most_entries vocab narrow, le-ltb 0 (length list % 3) (omega arith))
+
+        pub size_refused : wanted (length list / 3) (length s) ≡ false → Builds list vocab s (Err WrongShape) s
+        size_refused a = build_refused WrongShape (λ t. refl) (later ∙ rw a)
+
+        module _ (size : wanted (length list / 3) (length s) ≡ true) where
+          pub id_refused : {at : ℕ} → Some at ≡ index_in list (first_too_large list) → Builds list vocab s (Err (IdTooLarge at)) s
+          id_refused {at} a =
+              let (e, l) = found_first list a in
+              build_refused (IdTooLarge at) (λ t. refl) (later ∙ rw (size, ← e, lt-ltb at (length list) l))
+
+          module _ (none : None ≡ index_in list (first_too_large list)) (t : List ℕ) where
+            pub fillable : t ≡ replicate (length s) vacant → Fillable list t
+            fillable e =
+                let same : length t ≡ length s = rw e (length-replicate (length s) vacant) in
+                record { size = rw same (wanted_sized _ _ few size); whole = whole; ids = found_none list none; clear = rw same e }
+
+            pub build_filled : {r : Result (Unit {0}) Refusal} {s' : List ℕ} → length t ≡ length s → Fills list t r s' → Builds list vocab s r s'
+            build_filled l f =
+                let e = later ∙ rw (size, le-ltb (first_too_large list) (length list) (omega (arith, legal_all list (found_none list none)))) in
+                record {
+                  answer = (rw l at f.answer) ∙ sym e;
+                  left = (rw l at f.left) ∙ rw e (left_by (filled list (length s)) (filled_ends list (length s)));
+                }
+
+pub ruleset building = (many_refused, wide_refused, part_refused, size_refused, id_refused, fillable, build_filled)
 
 -- ---- the two calls together
 
@@ -113,7 +111,7 @@ kept n (slots t) h e = h
 kept n (bad k p) h e = length-replicate n vacant
 
 -- over a built table, `rank` answers for each legal pair what the list has
-pub built_rank : (list : List ℕ) (vocab : ℕ) (s s' : List ℕ) → Builds list vocab s built.Done s'
+pub built_rank : (list : List ℕ) (vocab : ℕ) (s s' : List ℕ) → Builds list vocab s (Ok tt) s'
     → (a b : ℕ) → a ≤ top → b ≤ top → ranking_of s' a b ≡ ranks (look_of list a b)
 unfolding look
 built_rank list vocab s s' x a b la lb =

@@ -1,10 +1,6 @@
 -- Demand 3, over lists that building accepts and rows that merging takes. Assumes nothing.
-use mathlib.Core.Path.{◌≡◌, sym, ap₂, ◌∙◌}
-use mathlib.Core.Logic.{⊎_elim}
-use mathlib.Core.List.{List, [], ◌∷◌, ◌++◌}
-use Prim.Native.Nat.{ℕ, suc, ◌/◌, ◌≤◌}
-use native.Mathlib.Omega.{arith}
-use lib.ListN.{length, set, length-set, take, drop, replicate, length-replicate}
+use Rattle.std.proofs.Common.{◌≡◌, sym, ap₂, ◌∙◌, ⊎_elim, List, [], ◌∷◌, ◌++◌, ℕ, suc, ◌/◌, ◌≤◌, arith, length, set, length-set, take, drop, replicate}
+use lib.ListN.{length-replicate}
 use Rattle.token.specs.Limits.{top}
 use Rattle.token.specs.Ids.{Legal, AcceptedRow}
 use Rattle.merging.specs.Merging.{nothing, merge, starts, In}

@@ -1,10 +1,8 @@
 -- Rows of the bench sheet and the limits, computed from the definitions. Assumes nothing.
-use mathlib.Core.Path.{◌≡◌, refl}
-use mathlib.Core.Bool.{true, false}
-use mathlib.Core.List.{List, [], ◌∷◌}
-use Prim.Native.Nat.{ℕ}
+use Rattle.std.proofs.Common.{◌≡◌, refl, true, false, List, [], ◌∷◌, ℕ}
 use lib.Count.{ones, count_trailing_zeros}
 use Rattle.merging.specs.Merging.{nothing, rule}
+use Rattle.token.specs.Sizes.{power_within}
 use Rattle.token.specs.Refusals.{fine, refused}
 use Rattle.pairs.specs.Key.{key, packed, shift, home}
 use Rattle.pairs.specs.Walk.{walk}
@@ -31,7 +29,7 @@ unfolding refusal_of filled walk home shift count_trailing_zeros wanted ones rul
 taken = refl
 
 looks : (ranking_of (table_of rules 64) 8 5 ≡ ranks (rule 7 7)) × (ranking_of (table_of rules 64) 5 8 ≡ ranks nothing)
-unfolding ranking_of look filled walk home shift count_trailing_zeros shaped ones rules
+unfolding ranking_of look filled walk home shift count_trailing_zeros shaped power_within ones rules
 looks = (refl, refl)
 
 -- the later of two equal pairs is named, an id that is too large comes before it
@@ -45,7 +43,7 @@ large = refl
 
 -- the two lookups that the Rust answers
 asked : (ranking_of (table_of rules 64) 0 2097157 ≡ refuses 3 1) × (ranking_of (table_of rules 64) 4194303 2097151 ≡ refuses 3 0)
-unfolding ranking_of filled walk home shift count_trailing_zeros shaped ones rules
+unfolding ranking_of filled walk home shift count_trailing_zeros shaped power_within ones rules
 asked = (refl, refl)
 
 -- rules whose homes are one: the last of these 65 stands 64 after its home, and one more would stand 65 after it (65 rules want 256 slots)

@@ -1,11 +1,8 @@
 -- The turns and ways out of the inner functions of building. Assumes nothing.
-use mathlib.Core.Path.{◌≡◌, refl, sym, ap, ◌∙◌}
-use mathlib.Core.List.{List, ◌∷◌, ◌++◌, append-nil}
-use Prim.Native.Nat.{ℕ, suc, ◌+◌, ◌*◌, ◌<◌}
-use native.Mathlib.Numerals.{add-one}
-use native.Mathlib.Omega.{arith}
-use lib.ListN.{length, get_or, set, drop, replicate}
-use lib.Seq.{drop-cons, drop-length}
+use Rattle.std.proofs.Common.{[], zero, ◌/◌, ◌≤◌, take, drop-drop, length-drop, ◌≡◌, refl, sym, ap, ◌∙◌, List, ◌∷◌, ℕ, suc, ◌+◌, ◌*◌, ◌<◌, add-one, arith, length, get_or, set, drop, replicate, Ok, Err}
+use lib.Seq.{drop-length}
+use Rattle.std.specs.Simd.{first_chunks}
+use Rattle.token.specs.Ids.{Legal}
 use Rattle.token.specs.Refusals.{number, place, fine, refused}
 use Rattle.token.specs.declared.Refusal.{Refusal}
 use Rattle.token.specs.declared.Refusal.TheVariants.{PairRepeated, TooFar}
@@ -13,70 +10,85 @@ use Rattle.pairs.specs.Limits.{vacant}
 use Rattle.pairs.specs.Key.{key, packed, home}
 use Rattle.pairs.specs.Walk.{Walk, hit, empty, full, walk, reach, near}
 use Rattle.pairs.specs.Table.{Filled, slots, bad, store, fill, filled}
-use Rattle.pairs.specs.Steps.{Fits, said_by, stored_by, Inserts, Fills}
-use Rattle.pairs.specs.declared.Built.{Built}
-use Rattle.pairs.specs.declared.Built.TheVariants as built
-use Rattle.pairs.proofs.Ranks.{here}
-
--- ---- all slots empty
-
-pub cleared : (s s₀ : List ℕ) (i : ℕ) → i ≡ length s₀ → s ≡ replicate i vacant ++ drop i s₀ → s ≡ replicate (length s₀) vacant
-cleared s s₀ i e h = h ∙ rw (e, drop-length s₀, append-nil)
+use Rattle.pairs.specs.Steps.{Fits, OfIds, said_by, stored_by, Inserts, Stores}
+use Rattle.pairs.specs.declared.Rule.{Rule}
+use Rattle.pairs.proofs.Ranks.{here, empty_below}
 
 -- ---- one rule
 
-module _ (s : List ℕ) {mask by : ℕ} (fit : Fits s mask by) (a b m r : ℕ) {k f : ℕ} (ek : k ≡ key a b) (ef : f ≡ reach (length s)) where
-  stopped : {w : Walk} → w ≡ walk s k f (home by k) → near s (key a b) ≡ w
+module _ (s : List ℕ) {mask by : ℕ} (fit : Fits s mask by) (rule : Rule) (r : ℕ) {k f : ℕ} (ek : k ≡ key rule.left rule.right) (ef : f ≡ reach (length s)) where
+  stopped : {w : Walk} → w ≡ walk s k f (home by k) → near s (key rule.left rule.right) ≡ w
   stopped e = rw (← ek, ← ef) (sym (here s fit k f e))
 
-  pub insert_hit : {i : ℕ} → hit i ≡ walk s k f (home by k) → Inserts s a b m r (built.Refused (PairRepeated r)) s
+  pub insert_hit : {i : ℕ} → hit i ≡ walk s k f (home by k) → Inserts s rule r (Err (PairRepeated r)) s
   insert_hit e = let h = stopped e in record { answer = rw h; stored = rw h }
 
-  pub insert_empty : {i x : ℕ} → empty i ≡ walk s k f (home by k) → x ≡ packed a b m → Inserts s a b m r built.Done (set s i x)
+  pub insert_empty : {i x : ℕ} → empty i ≡ walk s k f (home by k) → x ≡ packed rule.left rule.right rule.merged → Inserts s rule r (Ok tt) (set s i x)
   insert_empty e ex = let h = stopped e in record { answer = rw h; stored = rw (h, ex) }
 
-  pub insert_full : full ≡ walk s k f (home by k) → Inserts s a b m r (built.Refused (TooFar r)) s
+  pub insert_full : full ≡ walk s k f (home by k) → Inserts s rule r (Err (TooFar r)) s
   insert_full e = let h = stopped e in record { answer = rw h; stored = rw h }
+
+pub ruleset inserting = (insert_hit, insert_empty, insert_full, empty_below)
 
 -- ---- the rules one by one
 
-differ : {A : Type 0} {k p : ℕ} → fine ≡ refused k p → A
-differ {A} {k} {p} e = absurd (let z : ◌≡◌ {A = ℕ} 0 1 = cc in omega arith)
-
 goes_on : (w : Walk) (r : ℕ) (s : List ℕ) (x : ℕ) (next : List ℕ → Filled) → fine ≡ said_by w r → store w r s x next ≡ next (stored_by w s x)
-goes_on (hit i) r s x next e = differ e
+goes_on (hit i) r s x next e = cc
 goes_on (empty i) r s x next e = refl
-goes_on full r s x next e = differ e
+goes_on full r s x next e = cc
 
 stops_at : (w : Walk) (r : ℕ) (s : List ℕ) (x : ℕ) (next : List ℕ → Filled) {k p : ℕ} → refused k p ≡ said_by w r → store w r s x next ≡ bad k p
 stops_at (hit i) r s x next e = cc
-stops_at (empty i) r s x next e = differ (sym e)
+stops_at (empty i) r s x next e = cc
 stops_at full r s x next e = cc
 
-cut : (list : List ℕ) (j k : ℕ) → k ≡ suc j → j < length list → drop j list ≡ get_or list j 0 ∷ drop k list
-cut list j k e l = rw e (drop-cons list j 0 l)
+-- a row that begins with a rule
+begins : (xs : List ℕ) → 3 ≤ length xs → xs ≡ get_or (take 3 xs) 0 0 ∷ get_or (take 3 xs) 1 0 ∷ get_or (take 3 xs) 2 0 ∷ drop 3 xs
+begins [] l = absurd (omega arith)
+begins (x ∷ []) l = absurd (omega arith)
+begins (x ∷ y ∷ []) l = absurd (omega arith)
+begins (x ∷ y ∷ z ∷ xs) l = refl
 
-module _ (list s : List ℕ) (i : ℕ) (l : 3 * i + 2 < length list) where
-  triple : drop (3 * i) list ≡ get_or list (3 * i) 0 ∷ get_or list (3 * i + 1) 0 ∷ get_or list (3 * i + 2) 0 ∷ drop (3 * (i + 1)) list
-  triple =
-      cut list (3 * i) (3 * i + 1) (omega arith) (omega arith)
-      ∙ ap (λ (d : List ℕ). get_or list (3 * i) 0 ∷ d)
-      (cut list (3 * i + 1) (3 * i + 2) (omega arith) (omega arith)
-      ∙ ap (λ (d : List ℕ). get_or list (3 * i + 1) 0 ∷ d) (cut list (3 * i + 2) (3 * (i + 1)) (omega arith) (omega arith)))
+chunk_at : (k i : ℕ) (xs : List ℕ) → i < k → get_or (first_chunks 3 k xs) i [] ≡ take 3 (drop (3 * i) xs)
+chunk_at zero i xs l = absurd (omega arith)
+chunk_at (suc k) zero xs l = refl
+chunk_at (suc k) (suc i) xs l = let more : 3 + 3 * i ≡ 3 * suc i = omega arith in chunk_at k i (drop 3 xs) (omega arith) ∙ rw (drop-drop, more)
 
-  abbrev rule_stored : Built → List ℕ → Type 0
-  rule_stored r s' = Inserts s (get_or list (3 * i) 0) (get_or list (3 * i + 1) 0) (get_or list (3 * i + 2) 0) i r s'
+legal_drop : (n : ℕ) (xs : List ℕ) → Legal xs → Legal (drop n xs)
+legal_drop zero xs l = l
+legal_drop (suc n) [] l = l
+legal_drop (suc n) (x ∷ xs) l = legal_drop n xs l.1
 
-  pub fill_on : {s' : List ℕ} → rule_stored built.Done s' → fill i (drop (3 * i) list) s ≡ fill (i + 1) (drop (3 * (i + 1)) list) s'
-  fill_on t =
-      ap (λ (d : List ℕ). fill i d s) triple
-      ∙ goes_on (near s (key (get_or list (3 * i) 0) (get_or list (3 * i + 1) 0))) i s _ (λ u. fill (suc i) (drop (3 * (i + 1)) list) u) t.answer
-      ∙ rw (add-one i, t.stored)
+module _ (list : List ℕ) {cs : List (List ℕ)} (e : cs ≡ first_chunks 3 (length list / 3) list) (i : ℕ) (l : i < length list / 3) where
+  abbrev number_at : ℕ → ℕ
+  number_at j = get_or (get_or cs i []) j 0
 
-  pub fill_stop : {f : Refusal} {s' : List ℕ} → rule_stored (built.Refused f) s' → fill i (drop (3 * i) list) s ≡ bad (number f) (place f)
-  fill_stop t =
-      ap (λ (u : List ℕ). fill i u s) triple
-      ∙ stops_at (near s (key (get_or list (3 * i) 0) (get_or list (3 * i + 1) 0))) i s _ (λ u. fill (suc i) (drop (3 * (i + 1)) list) u) t.answer
+  abbrev rule_at : Rule
+  rule_at = record { left = number_at 0; right = number_at 1; merged = number_at 2 }
+
+  cut : drop (3 * i) list ≡ number_at 0 ∷ number_at 1 ∷ number_at 2 ∷ drop (3 * (i + 1)) list
+  cut =
+      let long : 3 ≤ length (drop (3 * i) list) = simp length-drop (omega arith) in
+      let here : get_or cs i [] ≡ take 3 (drop (3 * i) list) = rw e (chunk_at (length list / 3) i list l) in
+      let more : 3 * i + 3 ≡ 3 * (i + 1) = omega arith in
+      let rest : drop 3 (drop (3 * i) list) ≡ drop (3 * (i + 1)) list = rw (drop-drop, more) in
+      rw (here, ← rest) (begins (drop (3 * i) list) long)
+
+  pub rule_of_ids : Legal list → OfIds rule_at
+  rule_of_ids h = let (a, (b, (m, rest))) = rw cut at (legal_drop (3 * i) list h) in (a, b, m)
+
+  module _ (s : List ℕ) where
+    pub fill_on : {s' : List ℕ} → Inserts s rule_at i (Ok tt) s' → fill i (drop (3 * i) list) s ≡ fill (i + 1) (drop (3 * (i + 1)) list) s'
+    fill_on t =
+        ap (λ (d : List ℕ). fill i d s) cut
+        ∙ goes_on (near s (key (number_at 0) (number_at 1))) i s _ (λ u. fill (suc i) (drop (3 * (i + 1)) list) u) t.answer
+        ∙ rw (add-one i, t.stored)
+
+    pub fill_stop : {f : Refusal} {s' : List ℕ} → Inserts s rule_at i (Err f) s' → fill i (drop (3 * i) list) s ≡ bad (number f) (place f)
+    fill_stop t =
+        ap (λ (u : List ℕ). fill i u s) cut
+        ∙ stops_at (near s (key (number_at 0) (number_at 1))) i s _ (λ u. fill (suc i) (drop (3 * (i + 1)) list) u) t.answer
 
 pub fill_start : (list s : List ℕ) → s ≡ replicate (length s) vacant → fill 0 (drop (3 * 0) list) s ≡ filled list (length s)
 unfolding filled
@@ -88,9 +100,10 @@ fill_end list s i e = rw (e, drop-length list)
 -- ---- the ways out, where all the rules over n empty slots are the rules from i on over s
 
 module _ (list s₀ : List ℕ) where
-  pub filled_bad : (f : Refusal) {s' : List ℕ} → filled list (length s₀) ≡ bad (number f) (place f) → s' ≡ replicate (length s₀) vacant
-      → Fills list s₀ (built.Refused f) s'
-  filled_bad f e h = record { answer = rw e; left = rw e h }
+  pub stored_bad : (f : Refusal) {s' : List ℕ} → filled list (length s₀) ≡ bad (number f) (place f) → Stores list s₀ (Err f) s'
+  stored_bad f e = record { answer = rw e; left = tt }
 
-  pub filled_done : {s : List ℕ} → filled list (length s₀) ≡ slots s → Fills list s₀ built.Done s
-  filled_done e = record { answer = rw e; left = rw e }
+  pub stored_all : {s : List ℕ} → filled list (length s₀) ≡ slots s → Stores list s₀ (Ok tt) s
+  stored_all e = record { answer = rw e; left = rw e }
+
+pub ruleset storing = (fill_start, fill_on, fill_stop, fill_end, rule_of_ids, stored_bad, stored_all)

@@ -1,14 +1,5 @@
 -- Over the slots of an accepted list, lookup is the list's. Assumes nothing.
-use mathlib.Core.Path.{◌≡◌, refl, sym, ap, ◌∙◌}
-use mathlib.Core.Logic.{◌≢◌}
-use mathlib.Core.Bool.{◌&&◌, cond}
-use mathlib.Core.List.{List, [], ◌∷◌}
-use Prim.Native.Nat.{ℕ, suc, ◌+◌, ◌^◌, ◌≤◌, ◌<◌}
-use native.Mathlib.Omega.{arith}
-use lib.Dec.{eqb, ltb}
-use lib.ListN.{length, get_or, set, length-set}
-use lib.Seq.{get_or-set_same, get_or-set_other}
-use borrow.Author.Tests.{eq-eqb, ne_eqb, ltb-false}
+use Rattle.std.proofs.Common.{◌≡◌, refl, sym, ap, ◌∙◌, ◌≢◌, ◌&&◌, cond, List, [], ◌∷◌, ℕ, suc, ◌+◌, ◌^◌, ◌≤◌, ◌<◌, arith, eqb, ltb, length, get_or, set, length-set, get_or-set_same, get_or-set_other, eq-eqb, ne_eqb, ltb-false}
 use Rattle.merging.specs.Merging.{Answer, nothing, rule}
 use Rattle.token.specs.Limits.{top}
 use Rattle.token.specs.Ids.{Legal}
@@ -124,10 +115,10 @@ or_else nothing y = y
 or_else (rule p m) y = rule p m
 
 pub not_slots : {A : Type 0} {k r : ℕ} {t : List ℕ} → bad k r ≡ slots t → A
-not_slots {A} {k} {r} {t} e = absurd (let z : ◌≡◌ {A = ℕ} 0 1 = cc in omega arith)
+not_slots e = cc
 
 same_slots : {s t : List ℕ} → slots s ≡ slots t → s ≡ t
-same_slots {s} {t} e = cc
+same_slots e = cc
 
 or_nothing : (x : Answer) → x ≡ or_else x nothing
 or_nothing nothing = refl

@@ -1,9 +1,5 @@
 -- A rank is none or an id. Assumes nothing.
-use mathlib.Core.List.{List}
-use Prim.Native.Nat.{ℕ, ◌≤◌}
-use native.Mathlib.Omega.{arith}
-use lib.Dec.{ltb}
-use lib.ListN.{length}
+use Rattle.std.proofs.Common.{List, ℕ, ◌≤◌, arith, ltb, length}
 use Rattle.token.specs.Limits.{top, no_id}
 use Rattle.token.proofs.Cases.{by_test}
 use Rattle.merging.proofs.Answer.{by_answer}

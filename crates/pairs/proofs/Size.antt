@@ -1,24 +1,16 @@
 -- What the tests of a size say: homes are slots, and a wanted size is a shape that lookup takes. Assumes nothing.
-use mathlib.Core.Path.{◌≡◌, refl, sym, ap, ◌∙◌, subst}
-use mathlib.Core.Logic.{◌≢◌}
-use mathlib.Core.Bool.{Bool, true, false, ◌&&◌, not, false≢true}
-use Prim.Native.Nat.{ℕ, suc, ◌-◌, ◌*◌, ◌/◌, ◌%◌, ◌^◌, ◌≤◌, ◌<◌}
-use native.Mathlib.Nat.{mod-lt, pow-suc}
-use native.Mathlib.Omega.{arith}
-use lib.Bits.{bit_and, and_mask}
+use Rattle.std.proofs.Common.{◌≡◌, sym, ap, ◌∙◌, subst, true, false, ◌&&◌, not, ℕ, suc, ◌-◌, ◌*◌, ◌/◌, ◌%◌, ◌^◌, ◌≤◌, ◌<◌, mod-lt, pow-suc, arith, bit_and, eqb, leb, pow_mono, pow_pos, eq-eqb, eqb-true, le-leb, leb-true, leb-false}
+use mathlib.Core.Bool.{false≢true}
+use lib.Bits.{and_mask}
 use lib.Count.{ones, count_trailing_zeros, trailing_le}
-use lib.Dec.{eqb, leb}
-use lib.Pow.{pow_mono, pow_pos}
-use borrow.Author.Tests.{eq-eqb, eqb-true, ne_eqb, le-leb, lt-leb, leb-true, leb-false, not-true}
+use borrow.Author.Tests.{not-true}
+use Rattle.std.proofs.lemmas.Bool.{and_parts}
+use Rattle.token.specs.Sizes.{power_within}
 use Rattle.pairs.specs.Limits.{factor, most_rules, least_slots, most_slots}
 use Rattle.pairs.specs.Key.{shift, home}
 use Rattle.pairs.specs.Table.{shaped, Sized, enough, wanted}
 use Rattle.pairs.proofs.Power.{one_set, zeros_pos, home_lt}
 use Rattle.token.proofs.Cases.{by_test}
-
-both : (a b : Bool) → a && b ≡ true → (a ≡ true) × (b ≡ true)
-both true b e = (refl, e)
-both false b e = absurd (false≢true e)
 
 pub is_power : {n : ℕ} → Sized n → n ≡ 2 ^ count_trailing_zeros 64 n
 is_power {n} z = let l = z.most in one_set 64 n (omega arith) z.power
@@ -38,14 +30,14 @@ homes {n} z k =
     (home_lt ((k * factor) % 2 ^ 64) (64 - t) (mod-lt (k * factor) (pow_pos 64)) (omega arith))
 
 pub shaped_sized : (n : ℕ) → shaped n ≡ true → Sized n
-unfolding shaped
+unfolding shaped power_within
 shaped_sized n e =
-    let (ab, c) = both (eqb (ones n) 1 && leb least_slots n) (leb n most_slots) e in
-    let (a, b) = both (eqb (ones n) 1) (leb least_slots n) ab in
+    let (ab, c) = and_parts (eqb (ones n) 1 && leb least_slots n) (leb n most_slots) e in
+    let (a, b) = and_parts (eqb (ones n) 1) (leb least_slots n) ab in
     record { power = eqb-true (ones n) 1 a; least = leb-true least_slots n b; most = leb-true n most_slots c }
 
 pub sized_shaped : {n : ℕ} → Sized n → shaped n ≡ true
-unfolding shaped
+unfolding shaped power_within
 sized_shaped {n} z = rw (eq-eqb (ones n) 1 z.power, le-leb least_slots n z.least, le-leb n most_slots z.most)
 
 -- a power of two whose half is below a power of two is at most that
@@ -71,9 +63,9 @@ half_small rules h few e =
 pub wanted_sized : (rules n : ℕ) → rules ≤ most_rules → wanted rules n ≡ true → Sized n
 unfolding wanted
 wanted_sized rules n few e =
-    let (ab, c) = both (eqb (ones n) 1 && enough rules n) (not (enough rules (n / 2))) e in
-    let (a, b) = both (eqb (ones n) 1) (enough rules n) ab in
-    let (least, twice) = both (leb least_slots n) (leb (2 * rules) n) b in
+    let (ab, c) = and_parts (eqb (ones n) 1 && enough rules n) (not (enough rules (n / 2))) e in
+    let (a, b) = and_parts (eqb (ones n) 1) (enough rules n) ab in
+    let (least, twice) = and_parts (leb least_slots n) (leb (2 * rules) n) b in
     let half : n / 2 < 2 ^ 18 = half_small rules (n / 2) few (not-true (enough rules (n / 2)) c) in
     let one = eqb-true (ones n) 1 a in
     record { power = one; least = leb-true least_slots n least; most = at_most n (count_trailing_zeros 64 n) 18 (one_set 64 n (omega arith) one) half }
@@ -82,10 +74,10 @@ wanted_sized rules n few e =
 pub wanted_smallest : (rules n m : ℕ) → n < 2 ^ 64 → m < 2 ^ 64 → wanted rules n ≡ true → ones m ≡ 1 → enough rules m ≡ true → n ≤ m
 unfolding wanted
 wanted_smallest rules n m ln lm e one fit =
-    let (ab, c) = both (eqb (ones n) 1 && enough rules n) (not (enough rules (n / 2))) e in
-    let (a, b) = both (eqb (ones n) 1) (enough rules n) ab in
+    let (ab, c) = and_parts (eqb (ones n) 1 && enough rules n) (not (enough rules (n / 2))) e in
+    let (a, b) = and_parts (eqb (ones n) 1) (enough rules n) ab in
     let short = not-true (enough rules (n / 2)) c in
-    let (least, twice) = both (leb least_slots m) (leb (2 * rules) m) fit in
+    let (least, twice) = and_parts (leb least_slots m) (leb (2 * rules) m) fit in
     let pn = one_set 64 n ln (eqb-true (ones n) 1 a) in
     let pm = one_set 64 m lm one in
     by_test (leb n m) (λ l. leb-true n m l) (λ l.
@@ -101,30 +93,3 @@ pub masked : {n : ℕ} → Sized n → (i : ℕ) → bit_and i (n - 1) ≡ i % n
 masked {n} z i =
     let e = is_power z in
     ap (λ (x : ℕ). bit_and i (x - 1)) e ∙ and_mask i (count_trailing_zeros 64 n) ∙ ap (λ (x : ℕ). i % x) (sym e)
-
--- ---- the code's tests
-
-pub shaped_no_power : (n : ℕ) → ones n ≢ 1 → false ≡ shaped n
-unfolding shaped
-shaped_no_power n a = rw (ne_eqb (ones n) 1 a)
-
-pub shaped_low : (n : ℕ) → ones n ≡ 1 → n < least_slots → false ≡ shaped n
-unfolding shaped
-shaped_low n a b = rw (eq-eqb (ones n) 1 a, lt-leb least_slots n b)
-
-pub shaped_high : (n : ℕ) → ones n ≡ 1 → least_slots ≤ n → leb n most_slots ≡ shaped n
-unfolding shaped
-shaped_high n a b = rw (eq-eqb (ones n) 1 a, le-leb least_slots n b)
-
-module _ (rules n : ℕ) where
-  pub wanted_no_power : ones n ≢ 1 → false ≡ wanted rules n
-  unfolding wanted
-  wanted_no_power a = rw (ne_eqb (ones n) 1 a)
-
-  pub wanted_short : ones n ≡ 1 → {t : Bool} → t ≡ enough rules n → t ≡ false → false ≡ wanted rules n
-  unfolding wanted
-  wanted_short a {t} e f = let g : enough rules n ≡ false = sym e ∙ f in rw (eq-eqb (ones n) 1 a, g)
-
-  pub wanted_least : ones n ≡ 1 → {t u : Bool} → t ≡ enough rules n → t ≡ true → u ≡ enough rules (n / 2) → not u ≡ wanted rules n
-  unfolding wanted
-  wanted_least a {t} {u} e f i = let g : enough rules n ≡ true = sym e ∙ f in rw (eq-eqb (ones n) 1 a, g, i)

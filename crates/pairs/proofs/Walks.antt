@@ -1,13 +1,5 @@
 -- Walks in general: the ways one goes, more fuel, and what a store into an empty slot does to it. Assumes nothing.
-use mathlib.Core.Path.{◌≡◌, refl, sym, ap, ◌∙◌}
-use mathlib.Core.Logic.{◌≢◌}
-use mathlib.Core.List.{List}
-use Prim.Native.Nat.{ℕ, zero, suc, ◌+◌, ◌-◌, ◌%◌, ◌≤◌, ◌<◌}
-use native.Mathlib.Nat.{mod-lt}
-use native.Mathlib.Omega.{arith}
-use lib.ListN.{length, get_or, set, length-set}
-use lib.Seq.{get_or-set_same, get_or-set_other}
-use borrow.Author.Tests.{eq-eqb, ne_eqb}
+use Rattle.std.proofs.Common.{◌≡◌, refl, sym, ap, ◌∙◌, ◌≢◌, List, ℕ, zero, suc, ◌+◌, ◌-◌, ◌%◌, ◌≤◌, ◌<◌, mod-lt, arith, length, get_or, set, length-set, get_or-set_same, get_or-set_other, eq-eqb, ne_eqb}
 use Rattle.token.proofs.Cases.{by_equal}
 use Rattle.pairs.specs.Limits.{vacant}
 use Rattle.pairs.specs.Key.{key_in}
@@ -20,10 +12,10 @@ by_walk (empty i) f g h = g i refl
 by_walk full f g h = h refl
 
 pub hit_empty : {A : Type 0} {w : Walk} {i j : ℕ} → w ≡ hit i → w ≡ empty j → A
-hit_empty {A} {w} {i} {j} a b = absurd (let z : ◌≡◌ {A = ℕ} 0 1 = cc in omega arith)
+hit_empty a b = cc
 
 pub hit_full : {A : Type 0} {w : Walk} {i : ℕ} → w ≡ hit i → w ≡ full → A
-hit_full {A} {w} {i} a b = absurd (let z : ◌≡◌ {A = ℕ} 0 1 = cc in omega arith)
+hit_full a b = cc
 
 -- the ways of a walk over the slots s for the key k: its fuel, where it stands, where it stops
 pub data Walks (s : List ℕ) (k : ℕ) : ℕ → ℕ → Walk → Type 0 where

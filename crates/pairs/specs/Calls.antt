@@ -1,16 +1,13 @@
 -- What the calls answer and leave, refusals included, as functions of what they are given. Assumes nothing.
-use Rattle.std.specs.Prelude.{◌≡◌, cond, List, ℕ, ◌/◌, ◌%◌, ltb, length, replicate}
+use Rattle.std.specs.Prelude.{◌≡◌, cond, List, ℕ, ◌/◌, ◌%◌, ltb, length, replicate, Option, Some, None, Result, Ok, Err}
 use Rattle.token.specs.Limits.{top, most_entries}
 use Rattle.token.specs.Ids.{first_too_large}
+use Rattle.token.specs.declared.Refusal.{Refusal}
 use Rattle.token.specs.Refusals.{number, place, Verdict, fine, refused, verdict}
 use Rattle.merging.specs.Merging.{Answer, nothing}
 use Rattle.merging.specs.Lists.{rule_of}
 use Rattle.pairs.specs.Limits.{vacant, most_rules}
 use Rattle.pairs.specs.Table.{look, shaped, wanted, Filled, slots, bad, filled}
-use Rattle.pairs.specs.declared.Built.{Built}
-use Rattle.pairs.specs.declared.Built.TheVariants as built
-use Rattle.pairs.specs.declared.Ranked.{Ranked}
-use Rattle.pairs.specs.declared.Ranked.TheVariants as ranked
 
 -- ---- build
 
@@ -47,12 +44,12 @@ after fine s t = t
 after (refused k p) s t = cond (ltb 3 k) t s
 
 -- the code's answer as the paper's
-abbrev pub told : Built → Verdict
-told built.Done = fine
-told (built.Refused f) = verdict f
+abbrev pub told : Result (Unit {0}) Refusal → Verdict
+told (Ok u) = fine
+told (Err f) = verdict f
 
 -- what `build` promises
-pub record Builds (list : List ℕ) (vocab : ℕ) (s : List ℕ) (r : Built) (s' : List ℕ) : Type 0 where
+pub record Builds (list : List ℕ) (vocab : ℕ) (s : List ℕ) (r : Result (Unit {0}) Refusal) (s' : List ℕ) : Type 0 where
   pub answer : told r ≡ refusal_of list vocab (length s)
   pub left : s' ≡ after (refusal_of list vocab (length s)) s (table_of list (length s))
 
@@ -70,7 +67,7 @@ ranking_of s a b =
     (refuses 2 0)
 
 -- `rank` promises `says r ≡ ranking_of slots a b`
-abbrev pub says : Ranked → Rank
-says (ranked.Merged m) = ranks (rule_of m)
-says ranked.Nothing = ranks nothing
-says (ranked.Refused f) = refuses (number f) (place f)
+abbrev pub says : Result (Option ℕ) Refusal → Rank
+says (Ok (Some m)) = ranks (rule_of m)
+says (Ok None) = ranks nothing
+says (Err f) = refuses (number f) (place f)

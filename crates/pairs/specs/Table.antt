@@ -1,6 +1,7 @@
 -- Lookup over slots, the sizes of tables, and the slots of a list. Assumes nothing.
 use Rattle.std.specs.Prelude.{◌≡◌, Bool, ◌&&◌, not, List, [], ◌∷◌, ℕ, suc, ◌*◌, ◌/◌, ◌≤◌, eqb, leb, get_or, set, replicate}
 use Rattle.std.specs.Int.Count.{ones}
+use Rattle.token.specs.Sizes.{power_within}
 use Rattle.merging.specs.Merging.{Answer, nothing}
 use Rattle.merging.specs.Lists.{rule_of}
 use Rattle.pairs.specs.Limits.{vacant, least_slots, most_slots}
@@ -22,7 +23,7 @@ look s a b = answer_at s (round s (key a b))
 
 -- a power of two from 64 to 262,144
 unfoldable pub shaped : ℕ → Bool
-shaped n = eqb (ones n) 1 && leb least_slots n && leb n most_slots
+shaped n = power_within least_slots most_slots n
 
 -- the same as facts
 pub record Sized (n : ℕ) : Type 0 where
