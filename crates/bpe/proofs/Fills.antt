@@ -4,12 +4,9 @@ use mathlib.Core.List.{List, ◌++◌, append-nil}
 use Prim.Native.Nat.{ℕ, ◌-◌, ◌≤◌}
 use native.Mathlib.Omega.{arith}
 use borrow.Rule.Slice.PartMut.{mid_of, put_mid, mid_len, Post-is}
-use lib.ListN.{length, take, drop, replicate}
+use lib.ListN.{length, take, replicate}
 use lib.Seq.{drop-length}
 use Rattle.bpe.specs.Calls.{zeroed}
-
-pub fill_end : (d l : List ℕ) (v i : ℕ) → d ≡ replicate i v ++ drop i l → i ≡ length l → d ≡ replicate (length l) v
-fill_end d l v i e f = e ∙ ap (λ (k : ℕ). replicate k v ++ drop k l) f ∙ ap (λ (t : List ℕ). replicate (length l) v ++ t) (drop-length l) ∙ append-nil (replicate (length l) v)
 
 -- from a on
 pub fill_tail : (a v : ℕ) (l part : List ℕ) → a ≤ length l → part ≡ replicate (length (mid_of a (length l - a) l)) v → put_mid a (length l - a) l part ≡ take a l ++ replicate (length l - a) v

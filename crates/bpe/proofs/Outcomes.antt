@@ -28,7 +28,7 @@ use Rattle.bpe.specs.Calls.{unfit, first_of, row_verdict, bytes_verdict, through
 use Rattle.bpe.specs.Look.{look_in}
 use Rattle.bpe.specs.Long.{MergedWith}
 use Rattle.bpe.specs.Small.{MergedShort}
-use Rattle.bpe.specs.declared.Merged.TheVariants as merged
+use Rattle.std.specs.Prelude.{Ok, Err}
 use Rattle.bpe.proofs.Pick.{answer_rule, answer_none}
 
 -- ---- merging by ranks is merging by the table's lookup
@@ -207,11 +207,11 @@ module _ (slots ids bytes row next prev heap : List ℕ) where
 
 -- ---- either way
 
-pub refused_by : {v : Verdict} {look : Lookup} {ids row next prev heap : List ℕ} (f : Refusal) → v ≡ verdict f → Merges v look ids row next prev heap (merged.Refused f) row next prev heap
+pub refused_by : {v : Verdict} {look : Lookup} {ids row next prev heap : List ℕ} (f : Refusal) → v ≡ verdict f → Merges v look ids row next prev heap (Err f) row next prev heap
 refused_by f e = rw e (record { answer = refl; row_is = refl; next_is = refl; prev_is = refl; heap_is = refl })
 
 pub merged_by : {v : Verdict} {look look' : Lookup} {ids next prev heap row' next' prev' heap' : List ℕ} (row : List ℕ) {count : ℕ} → v ≡ fine → merge look' ids ≡ merge look ids
-    → MergedWith (used (length ids)) look' ids next prev heap count row' next' prev' heap' → Merges v look ids row next prev heap (merged.Count count) row' next' prev' heap'
+    → MergedWith (used (length ids)) look' ids next prev heap count row' next' prev' heap' → Merges v look ids row next prev heap (Ok count) row' next' prev' heap'
 merged_by {v} {look} {look'} {ids} row {count} e f m =
     rw e (record {
       answer = ap counted (m.count_is ∙ ap length f);

@@ -2,17 +2,19 @@
 use mathlib.Core.Path.{◌≡◌, refl, sym, ap, ap₂, ◌∙◌}
 use mathlib.Core.Logic.{◌⊎◌, ⊎_elim}
 use mathlib.Core.List.{List}
-use Prim.Native.Nat.{ℕ, ◌+◌, ◌-◌, ◌/◌, ◌%◌, ◌^◌, ◌≤◌, ◌<◌}
+use Rattle.std.proofs.Common.{Option, None, Some}
+use Prim.Native.Nat.{ℕ, ◌+◌, ◌-◌, ◌≤◌, ◌<◌}
 use native.Mathlib.Omega.{arith}
 use lib.ListN.{length, get_or, set, length-set}
 use lib.Seq.{get_or-set_same, get_or-set_other}
 use Rattle.token.specs.Limits.{no_id}
 use Rattle.merging.proofs.Rows.{lt_or_le}
 use Rattle.bpe.specs.Limits.{most_small, no_place}
-use Rattle.bpe.specs.Look.{look_by, rank_at, entry, After}
+use Rattle.bpe.specs.Look.{look_by, rank_at, After}
 use Rattle.bpe.specs.Links.{Each, links, Cut, Compacted}
+use Rattle.bpe.specs.declared.heap.Entry.{Entry}
 use Rattle.bpe.specs.declared.small.Pair.{Pair}
-use Rattle.bpe.specs.Small.{Ranked, Linked8, Picked, IsPair, Placed, Between, Backed, Reranked, Ready8, Joined8, Scanning, MergedShort}
+use Rattle.bpe.specs.Small.{Ranked, Linked8, Picks, IsPair, Placed, Between, Backed, Reranked, Ready8, Joined8, Scanning, MergedShort}
 use Rattle.token.proofs.Cases.{by_equal}
 use Rattle.bpe.proofs.Same.{read}
 use Rattle.bpe.proofs.Entries.{entry_order}
@@ -62,20 +64,22 @@ module _ {ranks : List ℕ} {n : ℕ} where
       left = s.left;
     }
 
-    pub least_end : n ≤ i → n ≤ most_small → Picked ranks n (entry best at)
-    least_end l few =
+    pub least_none : n ≤ i → best ≡ no_id → Picks ranks n None
+    least_none l e = λ k h. omega (arith, s.low k (omega arith))
+
+    pub least_some : n ≤ i → n ≤ most_small → (best ≡ no_id → ⊥) → Picks ranks n (Some (record { merged = best; place = at }))
+    least_some l few ne =
         let al = s.at_low in
         let to = s.to in
         let bm = s.most in
+        let w = s.was (omega arith) in
         record {
+          some = omega arith;
+          inside = omega (arith, w.0);
+          was = w.1;
           least = λ k h. by_equal best (get_or ranks k 0)
               (λ e. ⊎_elim (λ lt. absurd (omega (arith, s.left k lt))) (λ ge. omega arith) (lt_or_le k at))
               (λ ne. omega (arith, s.low k (omega arith)));
-          was = λ h.
-              let f : entry best at / 2 ^ 32 ≡ best = omega arith in
-              let g : entry best at % 2 ^ 32 ≡ at = omega arith in
-              let w = s.was (omega arith) in
-              (omega arith, read ranks g ∙ w.1 ∙ sym f);
         }
 
 -- ---- the ranks of a row that is not merged yet, up to i
@@ -149,8 +153,8 @@ module _ {rk : ℕ → ℕ → ℕ} {row : List ℕ} (ranks : List ℕ) {p : Pai
       }
 
 -- the links around the pair
-pub joined8 : {rk : ℕ → ℕ → ℕ} {row next prev ranks : List ℕ} {p : Pair} {m : ℕ} {prev' ranks' : List ℕ} {e : ℕ} → Ready8 row next prev ranks p
-    → Backed (length row) prev p.after p.at prev' → Reranked rk (set row p.at m) ranks p ranks' → Picked ranks' (length row) e
+pub joined8 : {rk : ℕ → ℕ → ℕ} {row next prev ranks : List ℕ} {p : Pair} {m : ℕ} {prev' ranks' : List ℕ} {e : Option Entry} → Ready8 row next prev ranks p
+    → Backed (length row) prev p.after p.at prev' → Reranked rk (set row p.at m) ranks p ranks' → Picks ranks' (length row) e
     → Joined8 rk row next prev ranks p m (set row p.at m) (set (set next p.at p.after) p.right (length row)) prev' ranks' e
 joined8 {rk} {row} {next} {prev} {ranks} {p} {m} {prev'} {ranks'} {e} r b k d =
     let z = r.placed in
@@ -171,28 +175,28 @@ joined8 {rk} {row} {next} {prev} {ranks} {p} {m} {prev'} {ranks'} {e} r b k d =
 
 -- ---- one merge
 
-module _ {rk mg : ℕ → ℕ → ℕ} {given row next prev ranks : List ℕ} {e : ℕ} (g : Scanning rk mg given row next prev ranks e) (few : length given ≤ most_small) (some : e / 2 ^ 32 < no_id) where
+module _ {rk mg : ℕ → ℕ → ℕ} {given row next prev ranks : List ℕ} {e : Entry} (g : Scanning rk mg given row next prev ranks (Some e)) (few : length given ≤ most_small) where
   -- the place of the entry has a next
-  module _ {p : ℕ} (at-is : p ≡ e % 2 ^ 32) where
+  module _ {p : ℕ} (at-is : p ≡ e.place) where
     picked_place : p < length given
-    picked_place = omega (arith, g.picked.was some)
+    picked_place = omega (arith, g.picked.inside)
 
-    picked_rank : get_or ranks p 0 ≡ e / 2 ^ 32
-    picked_rank = read ranks at-is ∙ (g.picked.was some).1
+    picked_rank : get_or ranks p 0 ≡ e.merged
+    picked_rank = read ranks at-is ∙ g.picked.was
 
     picked_next : get_or next p 0 ≡ length given → ⊥
-    picked_next f = omega (arith, picked_rank, g.ranked.none p picked_place f)
+    picked_next f = omega (arith, picked_rank, g.ranked.none p picked_place f, g.picked.some)
 
     pub scan_place : (p < most_small) × (get_or next p 0 < most_small)
     scan_place = (omega (arith, picked_place), omega (arith, live_right g.lives (omega arith) p picked_place picked_next))
 
-module _ {rk mg : ℕ → ℕ → ℕ} {given row next prev ranks : List ℕ} {e : ℕ} (g : Scanning rk mg given row next prev ranks e) (few : length given ≤ most_small) (rl : length row ≡ length given)
-    (some : e / 2 ^ 32 < no_id) {p : Pair} (at-is : p.at ≡ e % 2 ^ 32) (ip : IsPair next prev p) where
+module _ {rk mg : ℕ → ℕ → ℕ} {given row next prev ranks : List ℕ} {e : Entry} (g : Scanning rk mg given row next prev ranks (Some e)) (few : length given ≤ most_small) (rl : length row ≡ length given)
+    {p : Pair} (at-is : p.at ≡ e.place) (ip : IsPair next prev p) where
   lp : p.at < length given
-  lp = picked_place g few some at-is
+  lp = picked_place g few at-is
 
   ne : get_or next p.at 0 ≡ length given → ⊥
-  ne = picked_next g few some at-is
+  ne = picked_next g few at-is
 
   wide : length given ≤ length given
   wide = omega arith
@@ -200,8 +204,8 @@ module _ {rk mg : ℕ → ℕ → ℕ} {given row next prev ranks : List ℕ} {e
   right : (p.at < get_or next p.at 0) × (get_or next p.at 0 < length given)
   right = live_right g.lives wide p.at lp ne
 
-  pub scan_rank : rank_at rk row p.at (get_or next p.at 0) ≡ e / 2 ^ 32
-  scan_rank = sym (g.ranked.pairs p.at lp ne) ∙ picked_rank g few some at-is
+  pub scan_rank : rank_at rk row p.at (get_or next p.at 0) ≡ e.merged
+  scan_rank = sym (g.ranked.pairs p.at lp ne) ∙ picked_rank g few at-is
 
   -- the place before p is before it in the row too, if there is one
   left_is : (get_or prev p.at 0 ≡ no_place) ⊎ ((get_or prev p.at 0 < p.at) × (get_or next (get_or prev p.at 0) 0 ≡ p.at))
@@ -225,12 +229,12 @@ module _ {rk mg : ℕ → ℕ → ℕ} {given row next prev ranks : List ℕ} {e
         };
       }
 
-  after : Each (length given) (length given) next (After rk row (e / 2 ^ 32) p.at)
+  after : Each (length given) (length given) next (After rk row e.merged p.at)
   after i l ni nn =
       let f = g.ranked.pairs i l ni in
-      entry_order (e / 2 ^ 32) p.at (rank_at rk row i (get_or next i 0)) i (omega arith) (omega arith) (omega (arith, g.picked.least i l))
+      entry_order e.merged p.at (rank_at rk row i (get_or next i 0)) i (omega arith) (omega arith) (omega (arith, g.picked.least i l))
 
-  module _ {row' next' prev' ranks' : List ℕ} {e' : ℕ} (j : Joined8 rk row next prev ranks p (e / 2 ^ 32) row' next' prev' ranks' e') where
+  module _ {row' next' prev' ranks' : List ℕ} {e' : Option Entry} (j : Joined8 rk row next prev ranks p e.merged row' next' prev' ranks' e') where
     c : Cut (length given) next prev p.at (get_or next p.at 0) next' prev'
     c = rw (rl, ip.right) at j.cut
 
@@ -238,10 +242,10 @@ module _ {rk mg : ℕ → ℕ → ℕ} {given row next prev ranks : List ℕ} {e
     scan_less = omega (arith, c.fewer (length given) lp right.1 ne)
 
     rl' : length row' ≡ length given
-    rl' = ap length j.row_is ∙ length-set row p.at (e / 2 ^ 32) ∙ rl
+    rl' = ap length j.row_is ∙ length-set row p.at e.merged ∙ rl
 
     rest : (i : ℕ) → (i ≡ p.at → ⊥) → get_or row' i 0 ≡ get_or row i 0
-    rest = joined_rest g.lives wide p.at lp ne next' prev' c row' (e / 2 ^ 32) j.row_is rl
+    rest = joined_rest g.lives wide p.at lp ne next' prev' c row' e.merged j.row_is rl
 
     k : Reranked rk row' ranks p ranks'
     k = j.ranked
@@ -271,21 +275,17 @@ module _ {rk mg : ℕ → ℕ → ℕ} {given row next prev ranks : List ℕ} {e
           k.others i na nq (not_left i l (λ z. omega (arith, lp))) ∙ g.ranked.none i l h));
     }
 
-    pub scan_turn : e / 2 ^ 32 ≡ rank_at mg row p.at (get_or next p.at 0) → Scanning rk mg given row' next' prev' ranks' e'
+    pub scan_turn : e.merged ≡ rank_at mg row p.at (get_or next p.at 0) → Scanning rk mg given row' next' prev' ranks' e'
     scan_turn em = record {
       sized = j.sized;
-      lives = live_merged rk mg g.lives wide p.at lp ne next' prev' row' c (j.row_is ∙ ap (set row p.at) em) rl (e / 2 ^ 32) scan_rank (λ z. omega arith) after;
+      lives = live_merged rk mg g.lives wide p.at lp ne next' prev' row' c (j.row_is ∙ ap (set row p.at) em) rl e.merged scan_rank (λ z. omega (arith, g.picked.some)) after;
       ranked = ranked;
       picked = rw rl at j.picked;
     }
 
--- a rank that is not none
-pub some_rank : (r e : ℕ) → r ≡ e / 2 ^ 32 → r < 2 ^ 32 → (r ≡ no_id → ⊥) → e / 2 ^ 32 < no_id
-some_rank r e f l n = omega arith
-
 -- ---- the beginning and the end
 
-pub scan_start : {rk : ℕ → ℕ → ℕ} (mg : ℕ → ℕ → ℕ) {row next prev ranks : List ℕ} {e : ℕ} → 2 ≤ length row → Linked8 rk row next prev ranks → Picked ranks (length row) e → Scanning rk mg row row next prev ranks e
+pub scan_start : {rk : ℕ → ℕ → ℕ} (mg : ℕ → ℕ → ℕ) {row next prev ranks : List ℕ} {e : Option Entry} → 2 ≤ length row → Linked8 rk row next prev ranks → Picks ranks (length row) e → Scanning rk mg row row next prev ranks e
 scan_start {rk} mg {row} {next} {prev} {ranks} {e} two l d = record {
   sized = l.sized;
   lives = live_start (look_by rk mg) row next prev two l.fresh;
@@ -297,10 +297,10 @@ scan_start {rk} mg {row} {next} {prev} {ranks} {e} two l d = record {
   picked = d;
 }
 
-pub scan_end : {rk mg : ℕ → ℕ → ℕ} {given row next prev ranks : List ℕ} {e : ℕ} {row' : List ℕ} {count : ℕ} → Scanning rk mg given row next prev ranks e → ((a b : ℕ) → rk a b ≤ no_id)
-    → e / 2 ^ 32 ≡ no_id → length given ≤ most_small → length row ≡ length given → Compacted (length given) row next row' count → MergedShort (look_by rk mg) given count row'
-scan_end {rk} {mg} {given} {row} {next} {prev} {ranks} {e} {row'} {count} g small none few rl packed =
+pub scan_end : {rk mg : ℕ → ℕ → ℕ} {given row next prev ranks : List ℕ} {row' : List ℕ} {count : ℕ} → Scanning rk mg given row next prev ranks None → ((a b : ℕ) → rk a b ≤ no_id)
+    → length given ≤ most_small → length row ≡ length given → Compacted (length given) row next row' count → MergedShort (look_by rk mg) given count row'
+scan_end {rk} {mg} {given} {row} {next} {prev} {ranks} {row'} {count} g small few rl packed =
     let (f, h) = answered g.lives (omega arith) rl
     (live_done rk mg g.lives (omega arith)
-    (λ i l ne. let q = g.ranked.pairs i l ne in omega (arith, g.picked.least i l, small (get_or row i 0) (get_or row (get_or next i 0) 0)))) packed in
+    (λ i l ne. let q = g.ranked.pairs i l ne in omega (arith, g.picked i l, small (get_or row i 0) (get_or row (get_or next i 0) 0)))) packed in
     record { count_is = f; row_is = h }

@@ -1,13 +1,12 @@
 -- What the two calls answer and leave, refusals included, as functions of what they are given. Assumes nothing.
-use Rattle.std.specs.Prelude.{◌≡◌, Bool, not, cond, ◌&&◌, ◌||◌, List, ◌++◌, map, ℕ, ◌*◌, ◌-◌, ltb, eqb, length, get_or, drop, replicate}
+use Rattle.std.specs.Prelude.{◌≡◌, Bool, not, cond, ◌&&◌, ◌||◌, List, ◌++◌, map, ℕ, ◌*◌, ◌-◌, ltb, eqb, length, get_or, drop, replicate, Result, Ok, Err}
 use Rattle.token.specs.Limits.{no_id, most_row}
 use Rattle.token.specs.Ids.{first_too_large}
 use Rattle.token.specs.Refusals.{Verdict, fine, refused, verdict}
 use Rattle.merging.specs.Merging.{Lookup, merge}
 use Rattle.pairs.specs.Table.{look, shaped}
 use Rattle.bpe.specs.Limits.{most_small, map_length}
-use Rattle.bpe.specs.declared.Merged.{Merged}
-use Rattle.bpe.specs.declared.Merged.TheVariants as merged
+use Rattle.token.specs.declared.Refusal.{Refusal}
 
 -- ---- what is refused
 
@@ -68,16 +67,16 @@ pub data Told : Type 0 where
   counted : ℕ → Told
   refuses : Verdict → Told
 
-abbrev pub told : Merged → Told
-told (merged.Count c) = counted c
-told (merged.Refused f) = refuses (verdict f)
+abbrev pub told : Result ℕ Refusal → Told
+told (Ok c) = counted c
+told (Err f) = refuses (verdict f)
 
 abbrev pub tells : Verdict → ℕ → Told
 tells fine c = counted c
 tells (refused k p) c = refuses (refused k p)
 
 -- what merging `ids` under a lookup promises: its answer, and each lent row at exit
-pub record Merges (v : Verdict) (look : Lookup) (ids row next prev heap : List ℕ) (r : Merged) (row' next' prev' heap' : List ℕ) : Type 0 where
+pub record Merges (v : Verdict) (look : Lookup) (ids row next prev heap : List ℕ) (r : Result ℕ Refusal) (row' next' prev' heap' : List ℕ) : Type 0 where
   pub answer : told r ≡ tells v (length (merge look ids))
   pub row_is : row' ≡ left_by v row (merged_row look ids)
   pub next_is : next' ≡ left_by v next (zeroed (used (length ids)) next)
@@ -85,11 +84,11 @@ pub record Merges (v : Verdict) (look : Lookup) (ids row next prev heap : List �
   pub heap_is : heap' ≡ left_by v heap (zeroed (2 * used (length ids)) heap)
 
 -- what `bpe_merge_symbols_by_rank` promises
-abbrev pub MergesRow : List ℕ → List ℕ → List ℕ → List ℕ → List ℕ → Merged → List ℕ → List ℕ → List ℕ → List ℕ → Type 0
+abbrev pub MergesRow : List ℕ → List ℕ → List ℕ → List ℕ → List ℕ → Result ℕ Refusal → List ℕ → List ℕ → List ℕ → List ℕ → Type 0
 MergesRow slots row next prev heap r row' next' prev' heap' =
     Merges (row_verdict slots row next prev heap) (look slots) row row next prev heap r row' next' prev' heap'
 
 -- what `simple_bpe_merge` promises
-abbrev pub MergesBytes : List ℕ → List ℕ → List ℕ → List ℕ → List ℕ → List ℕ → List ℕ → Merged → List ℕ → List ℕ → List ℕ → List ℕ → Type 0
+abbrev pub MergesBytes : List ℕ → List ℕ → List ℕ → List ℕ → List ℕ → List ℕ → List ℕ → Result ℕ Refusal → List ℕ → List ℕ → List ℕ → List ℕ → Type 0
 MergesBytes slots ids bytes row next prev heap r row' next' prev' heap' =
     Merges (bytes_verdict slots ids bytes row next prev heap) (look slots) (through ids bytes) row next prev heap r row' next' prev' heap'

@@ -1,7 +1,6 @@
 -- A call of `bpe_merge_symbols_by_rank` that was not refused, whatever scratch it was lent. Assumes nothing.
-use Rattle.std.specs.Prelude.{List, ℕ}
+use Rattle.std.specs.Prelude.{List, ℕ, Ok}
 use Rattle.bpe.specs.Calls.{MergesRow}
-use Rattle.bpe.specs.declared.Merged.TheVariants.{Count}
 
 -- over these slots the call answered c for the row, and left row'
 pub record Leaves (slots row : List ℕ) (c : ℕ) (row' : List ℕ) : Type 0 where
@@ -11,4 +10,4 @@ pub record Leaves (slots row : List ℕ) (c : ℕ) (row' : List ℕ) : Type 0 wh
   pub next' : List ℕ
   pub prev' : List ℕ
   pub heap' : List ℕ
-  pub merged : MergesRow slots row next prev heap (Count c) row' next' prev' heap'
+  pub merged : MergesRow slots row next prev heap (Ok c) row' next' prev' heap'

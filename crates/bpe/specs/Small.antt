@@ -1,11 +1,12 @@
 -- Merging a short row by a scan of ranks: what each function does. Assumes nothing.
-use Rattle.std.specs.Prelude.{◌≡◌, List, ℕ, ◌+◌, ◌/◌, ◌%◌, ◌^◌, ◌≤◌, ◌<◌, length, get_or, set}
+use Rattle.std.specs.Prelude.{◌≡◌, List, ℕ, ◌+◌, ◌≤◌, ◌<◌, length, get_or, set, Option, None, Some}
 use Rattle.token.specs.Limits.{no_id}
 use Rattle.merging.specs.Merging.{Lookup, merge}
 use Rattle.bpe.specs.Limits.{most_small, no_place}
 use Rattle.bpe.specs.Calls.{merged_row}
 use Rattle.bpe.specs.Look.{look_by, rank_at, entry}
 use Rattle.bpe.specs.Links.{Each, Fresh, Cut, Live}
+use Rattle.bpe.specs.declared.heap.Entry.{Entry}
 use Rattle.bpe.specs.declared.small.Pair.{Pair}
 
 -- the arrays have room for the longest short row
@@ -26,10 +27,17 @@ pub record Linked8 (rk : ℕ → ℕ → ℕ) (row next prev ranks : List ℕ) :
   pub pairs : (i : ℕ) → i + 1 < length row → get_or ranks i 0 ≡ rank_at rk row i (i + 1)
   pub last : (i : ℕ) → i + 1 ≡ length row → get_or ranks i 0 ≡ no_id
 
--- e is the least of the entries of the first n ranks, or of no rule
-pub record Picked (ranks : List ℕ) (n e : ℕ) : Type 0 where
-  pub least : (i : ℕ) → i < n → e ≤ entry (get_or ranks i 0) i
-  pub was : e / 2 ^ 32 < no_id → (e % 2 ^ 32 < n) × (get_or ranks (e % 2 ^ 32) 0 ≡ e / 2 ^ 32)
+-- the entry e is the least of those of the first n ranks
+pub record Picked (ranks : List ℕ) (n : ℕ) (e : Entry) : Type 0 where
+  pub some : e.merged < no_id
+  pub inside : e.place < n
+  pub was : get_or ranks e.place 0 ≡ e.merged
+  pub least : (i : ℕ) → i < n → entry e.merged e.place ≤ entry (get_or ranks i 0) i
+
+-- what a search for the least rank answers: its entry, or that no place has a rank
+abbrev pub Picks : List ℕ → ℕ → Option Entry → Type 0
+Picks ranks n None = (i : ℕ) → i < n → no_id ≤ get_or ranks i 0
+Picks ranks n (Some e) = Picked ranks n e
 
 -- what is around the pair at a place
 pub record IsPair (next prev : List ℕ) (p : Pair) : Type 0 where
@@ -72,19 +80,19 @@ pub record Ready8 (row next prev ranks : List ℕ) (p : Pair) : Type 0 where
   pub placed : Placed (length row) p
 
 -- the pair was merged to the id m, and e is the next entry
-pub record Joined8 (rk : ℕ → ℕ → ℕ) (row next prev ranks : List ℕ) (p : Pair) (m : ℕ) (row' next' prev' ranks' : List ℕ) (e : ℕ) : Type 0 where
+pub record Joined8 (rk : ℕ → ℕ → ℕ) (row next prev ranks : List ℕ) (p : Pair) (m : ℕ) (row' next' prev' ranks' : List ℕ) (e : Option Entry) : Type 0 where
   pub sized : Sized next' prev' ranks'
   pub row_is : row' ≡ set row p.at m
   pub cut : Cut (length row) next prev p.at p.right next' prev'
   pub ranked : Reranked rk row' ranks p ranks'
-  pub picked : Picked ranks' (length row) e
+  pub picked : Picks ranks' (length row) e
 
 -- the run on its way, from the given row, with the entry of the pair to merge next
-pub record Scanning (rk mg : ℕ → ℕ → ℕ) (given row next prev ranks : List ℕ) (e : ℕ) : Type 0 where
+pub record Scanning (rk mg : ℕ → ℕ → ℕ) (given row next prev ranks : List ℕ) (e : Option Entry) : Type 0 where
   pub sized : Sized next prev ranks
   pub lives : Live no_place (length given) (look_by rk mg) given (length given) row next prev
   pub ranked : Ranked rk (length given) row next ranks
-  pub picked : Picked ranks (length given) e
+  pub picked : Picks ranks (length given) e
 
 -- what the whole does
 pub record MergedShort (look : Lookup) (row : List ℕ) (count : ℕ) (row' : List ℕ) : Type 0 where

@@ -3,6 +3,13 @@ ghost use Rattle.std.specs.Prelude.{◌≡◌, ◌+◌, ◌*◌, ◌/◌, ◌%�
 ghost use Rattle.bpe.specs.Look.{entry as entry_of};
 ghost use Rattle.bpe.specs.Heap.{Ordered, Up, Down, Sifted, Least, Pushed, Took};
 
+// A merged id, which is the priority, with the place of its pair.
+#[derive(Clone, Copy, PartialEq, Eq, Debug)]
+pub struct Entry {
+    pub merged: u32,
+    pub place: u32,
+}
+
 #[derive(Clone, Copy)]
 pub enum Popped {
     Empty,

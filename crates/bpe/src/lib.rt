@@ -13,7 +13,6 @@ use token::{Refusal, TokenId};
 
 mod heap;
 mod long;
-mod rows;
 mod small;
 
 // Rows up to this length are merged by a scan of ranks, longer ones with a heap.
@@ -22,30 +21,11 @@ pub const SMALL_MERGE_MAX: usize = 32;
 // A byte map has an id for each byte.
 pub const BYTE_MAP_LEN: usize = 256;
 
-#[derive(Clone, Copy)]
-pub enum Merged {
-    // so many ids has the answer
-    Count(usize),
-    Refused(Refusal),
-}
-
 // Is the table or the scratch of the wrong shape for n ids? The arguments are lengths.
 fn unfit(slots: usize, n: usize, next: usize, prev: usize, heap: usize) -> bool
     ensures { result ≡ is_unfit slots n next prev heap }
 {
-    if !pairs::shaped(slots) {
-        return true;
-    }
-    if n <= SMALL_MERGE_MAX {
-        return false;
-    }
-    if next < n {
-        return true;
-    }
-    if prev < n {
-        return true;
-    }
-    heap / 2 < n
+    !pairs::shaped(slots) || n > SMALL_MERGE_MAX && (next < n || prev < n || heap / 2 < n)
 }
 
 // Merges a row of ids by the path that its length takes.
@@ -70,29 +50,30 @@ fn merge_row(
     long::bpe_merge_symbols_long(slots, row, next, prev, heap)
 }
 
-// Merges a lent row of ids in place, over the lent slots of a pair table. Rows above 32 ids want scratch: two rows of as many places, and
-// one of twice as many words. The answer goes to the front and none behind it; scratch that was used ends zero. Refuses 1, 2 and 3.
+// Merges a lent row of ids in place, over the lent slots of a pair table. How many ids the answer has comes back. Rows above 32 ids want
+// scratch: two rows of as many places, and one of twice as many words. The answer goes to the front and none behind it; scratch that was
+// used ends zero. Refuses 1, 2 and 3.
 pub fn bpe_merge_symbols_by_rank(
     slots: &[u64],
     row: &mut [u32],
     next: &mut [u32],
     prev: &mut [u32],
     heap: &mut [u64],
-) -> Merged
+) -> Result<usize, Refusal>
     ensures { MergesRow slots.now row.old next.old prev.old heap.old result
         row.new next.new prev.new heap.new }
 {
     let n = row.len();
     if n > TokenId::ROW_MAX {
-        return Merged::Refused(Refusal::CountTooLarge);
+        return Err(Refusal::CountTooLarge);
     }
     if unfit(slots.len(), n, next.len(), prev.len(), heap.len()) {
-        return Merged::Refused(Refusal::WrongShape);
+        return Err(Refusal::WrongShape);
     }
     if let Some(at) = token::first_too_large(row) {
-        return Merged::Refused(Refusal::IdTooLarge(at));
+        return Err(Refusal::IdTooLarge(at));
     }
-    Merged::Count(merge_row(slots, row, next, prev, heap))
+    Ok(merge_row(slots, row, next, prev, heap))
 }
 
 // The place of the first byte whose id is too large.
@@ -105,22 +86,13 @@ fn first_large_byte(map: &[u32], bytes: &[u8]) -> Option<usize>
         .position(|b| map[usize::from(*b)] > TokenId::MAX)
 }
 
-pub(crate) fn wide(x: u8) -> usize
-    ensures { result ≡ x }
-{
-    x as usize
-}
-
 // Writes the ids of the bytes to the row.
 fn map_bytes(map: &[u32], bytes: &[u8], row: &mut [u32])
     requires { (length map.now ≡ map_length) × (length row.old ≡ length bytes.now) }
     ensures { row.new ≡ through map.now bytes.now }
 {
-    let mut i = 0;
-    while i < row.len() {
-        let b = wide(bytes[i]);
-        row[i] = map[b];
-        i += 1;
+    for (i, b) in bytes.iter().enumerate() {
+        row[i] = map[usize::from(*b)];
     }
 }
 
@@ -133,29 +105,29 @@ pub fn simple_bpe_merge(
     next: &mut [u32],
     prev: &mut [u32],
     heap: &mut [u64],
-) -> Merged
+) -> Result<usize, Refusal>
     ensures { MergesBytes slots.now map.now bytes.now row.old next.old prev.old heap.old result
         row.new next.new prev.new heap.new }
 {
     let n = bytes.len();
     if n > TokenId::ROW_MAX {
-        return Merged::Refused(Refusal::CountTooLarge);
+        return Err(Refusal::CountTooLarge);
     }
     if row.len() > TokenId::ROW_MAX {
-        return Merged::Refused(Refusal::CountTooLarge);
+        return Err(Refusal::CountTooLarge);
     }
     if row.len() != n {
-        return Merged::Refused(Refusal::WrongShape);
+        return Err(Refusal::WrongShape);
     }
     if map.len() != BYTE_MAP_LEN {
-        return Merged::Refused(Refusal::WrongShape);
+        return Err(Refusal::WrongShape);
     }
     if unfit(slots.len(), n, next.len(), prev.len(), heap.len()) {
-        return Merged::Refused(Refusal::WrongShape);
+        return Err(Refusal::WrongShape);
     }
     if let Some(at) = first_large_byte(map, bytes) {
-        return Merged::Refused(Refusal::IdTooLarge(at));
+        return Err(Refusal::IdTooLarge(at));
     }
     map_bytes(map, bytes, row);
-    Merged::Count(merge_row(slots, row, next, prev, heap))
+    Ok(merge_row(slots, row, next, prev, heap))
 }

@@ -180,7 +180,7 @@ fn compact(row: &mut [u32], next: &[u32]) -> usize
         }
         i = after as usize;
     }
-    super::rows::fill(&mut row[count..], TokenId::NONE);
+    row[count..].fill(TokenId::NONE);
     count
 }
 
@@ -189,9 +189,9 @@ fn clear(next: &mut [u32], prev: &mut [u32], heap: &mut [u64], n: usize)
     requires { (n ≤ length next.old) × (n ≤ length prev.old) × (2 * n ≤ length heap.old) }
     ensures { Cleared n next.old prev.old heap.old next.new prev.new heap.new }
 {
-    super::rows::fill(&mut next[0..n], 0);
-    super::rows::fill(&mut prev[0..n], 0);
-    super::rows::fill64(&mut heap[0..2 * n], 0);
+    next[..n].fill(0);
+    prev[..n].fill(0);
+    heap[..2 * n].fill(0);
 }
 
 // Merges a row of 2 ids or more.

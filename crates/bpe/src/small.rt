@@ -5,10 +5,9 @@ ghost use Rattle.pairs.specs.Rank.{rank_of};
 ghost use Rattle.bpe.specs.Limits.{most_small};
 ghost use Rattle.bpe.specs.Look.{look_in};
 ghost use Rattle.bpe.specs.Links.{Rises, Compacted};
-ghost use Rattle.bpe.specs.Small.{Linked8, Picked, IsPair, Placed, Between, Backed, Reranked, Ready8, Joined8, MergedShort};
+ghost use Rattle.bpe.specs.Small.{Linked8, Picks, IsPair, Placed, Between, Backed, Reranked, Ready8, Joined8, MergedShort};
 
-use super::heap::{entry_merged, entry_place, pack_merge_entry};
-use super::wide;
+use crate::heap::Entry;
 use token::TokenId;
 
 // what stands before the first place
@@ -32,62 +31,85 @@ pub struct Pair {
     after: usize,
 }
 
-// The links and ranks of a row that is not merged yet.
-fn linked(slots: &[u64], row: &[u32]) -> Links
-    requires { (2 ≤ length row.now) × (length row.now ≤ most_small) }
-    ensures { Linked8 (rank_of slots.now) row.now result.next result.prev result.ranks }
-{
-    let mut l = Links {
-        next: [0u8; 32],
-        prev: [0u8; 32],
-        ranks: [TokenId::NONE; 32],
-    };
-    l.prev[0] = BEFORE;
-    let mut i: usize = 1;
-    while i < row.len() {
-        let before = i - 1;
-        l.next[before] = i as u8;
-        l.prev[i] = before as u8;
-        l.ranks[before] = pairs::rank_or_none(slots, row[before], row[i]);
-        i += 1;
-    }
-    let last = row.len() - 1;
-    l.next[last] = row.len() as u8;
-    l
-}
-
-// The entry of the least rank of the first `n` places, leftmost among equals.
-fn least(ranks: &[u32; 32], n: usize) -> u64
-    requires { n ≤ most_small }
-    ensures { Picked ranks.now n result }
-{
-    let mut best = TokenId::NONE;
-    let mut at: usize = 0;
-    let mut i: usize = 0;
-    while i < n {
-        let rank = ranks[i];
-        if rank < best {
-            best = rank;
-            at = i;
+impl Links {
+    // Those of a row that is not merged yet.
+    fn of(slots: &[u64], row: &[u32]) -> Links
+        requires { (2 ≤ length row.now) × (length row.now ≤ most_small) }
+        ensures { Linked8 (rank_of slots.now) row.now result.next result.prev result.ranks }
+    {
+        let mut l = Links {
+            next: [0; 32],
+            prev: [0; 32],
+            ranks: [TokenId::NONE; 32],
+        };
+        l.prev[0] = BEFORE;
+        for i in 1..row.len() {
+            let before = i - 1;
+            l.next[before] = i as u8;
+            l.prev[i] = before as u8;
+            l.ranks[before] = pairs::rank_or_none(slots, row[before], row[i]);
         }
-        i += 1;
+        let last = row.len() - 1;
+        l.next[last] = row.len() as u8;
+        l
     }
-    pack_merge_entry(best, at as u32)
+
+    fn pair_at(&self, at: usize) -> Pair
+        requires { (at < most_small) × (get_or self.now.next at 0 < most_small) }
+        ensures { (result.at ≡ at) × IsPair self.now.next self.now.prev result }
+    {
+        let right = usize::from(self.next[at]);
+        Pair {
+            left: usize::from(self.prev[at]),
+            at,
+            right,
+            after: usize::from(self.next[right]),
+        }
+    }
+
+    // Puts the merged id in place of the pair, and finds the entry to merge next. The links are copied to this function and back. So what it
+    // wants of them was read before, and the next entry is looked for before they go back: a copy of what was stored just now would wait for the stores.
+    fn join(
+        mut self,
+        slots: &[u64],
+        row: &mut [u32],
+        p: Pair,
+        merged: u32,
+    ) -> (Links, Option<Entry>)
+        requires { Ready8 row.old self.next self.prev self.ranks p }
+        ensures { Joined8 (rank_of slots.now) row.old self.next self.prev self.ranks p merged row.new result.0.next result.0.prev result.0.ranks result.1 }
+    {
+        let n = row.len();
+        self.next[p.at] = p.after as u8;
+        self.next[p.right] = n as u8;
+        set_prev(&mut self.prev, n, p.after, p.at);
+        row[p.at] = merged;
+        rerank(slots, row, &mut self.ranks, p);
+        let entry = least(&self.ranks, n);
+        (self, entry)
+    }
 }
 
-fn pair_at<'a>(next: &'a [u8; 32], prev: &'a [u8; 32], at: usize) -> Pair
-    requires { (at < most_small) × (get_or next.now at 0 < most_small) }
-    ensures { (result.at ≡ at) × IsPair next.now prev.now result }
+// The least rank of the first `n` places and its place, leftmost among equals, if one of them has a rank.
+fn least(ranks: &[u32; 32], n: usize) -> Option<Entry>
+    requires { n ≤ most_small }
+    ensures { Picks ranks.now n result }
 {
-    let right = wide(next[at]);
-    let after = wide(next[right]);
-    let left = wide(prev[at]);
-    Pair {
-        left: left,
-        at: at,
-        right: right,
-        after: after,
+    let mut merged = TokenId::NONE;
+    let mut place: usize = 0;
+    for (i, rank) in ranks[..n].iter().enumerate() {
+        if *rank < merged {
+            merged = *rank;
+            place = i;
+        }
     }
+    if merged == TokenId::NONE {
+        return None;
+    }
+    Some(Entry {
+        merged,
+        place: place as u32,
+    })
 }
 
 // The rank of the pair of the places `a` and `b`, none where `b` is no place.
@@ -116,34 +138,11 @@ fn rerank(slots: &[u64], row: &[u32], ranks: &mut [u32; 32], p: Pair)
     requires { (length ranks.old ≡ most_small) × Placed (length row.now) p }
     ensures { Reranked (rank_of slots.now) row.now ranks.old p ranks.new }
 {
-    let at = p.at;
-    let right = p.right;
-    let left = p.left;
-    ranks[right] = TokenId::NONE;
-    ranks[at] = rank_between(slots, row, at, p.after);
-    if left < row.len() {
-        ranks[left] = rank_between(slots, row, left, at);
+    ranks[p.right] = TokenId::NONE;
+    ranks[p.at] = rank_between(slots, row, p.at, p.after);
+    if p.left < row.len() {
+        ranks[p.left] = rank_between(slots, row, p.left, p.at);
     }
-}
-
-// Merges the pair of the entry, and leaves the entry to merge next. The links are copied to this function and back. So what it wants of
-// them was read before, and the next entry is looked for before they go back: a copy of what was stored just now would wait for the stores.
-fn join(slots: &[u64], row: &mut [u32], mut l: Links, p: Pair, entry: &mut u64) -> Links
-    requires { Ready8 row.old l.next l.prev l.ranks p }
-    ensures { Joined8 (rank_of slots.now) row.old l.next l.prev l.ranks p (entry.old / 2 ^ 32)
-        row.new result.next result.prev result.ranks entry.new }
-{
-    let n = row.len();
-    let at = p.at;
-    let right = p.right;
-    let after = p.after;
-    l.next[at] = after as u8;
-    l.next[right] = n as u8;
-    set_prev(&mut l.prev, n, after, at);
-    row[at] = entry_merged(*entry);
-    rerank(slots, row, &mut l.ranks, p);
-    *entry = least(&l.ranks, n);
-    l
 }
 
 // Moves what stands at the linked places to the front, and none behind it. How many there are comes back.
@@ -157,13 +156,13 @@ fn compact(row: &mut [u32], next: &[u8; 32]) -> usize
     loop {
         row[count] = row[i];
         count += 1;
-        let after = wide(next[i]);
+        let after = usize::from(next[i]);
         if after == n {
             break;
         }
         i = after;
     }
-    super::rows::fill(&mut row[count..], TokenId::NONE);
+    row[count..].fill(TokenId::NONE);
     count
 }
 
@@ -172,13 +171,11 @@ pub fn bpe_merge_symbols_small(slots: &[u64], row: &mut [u32]) -> usize
     requires { (2 ≤ length row.old) × (length row.old ≤ most_small) }
     ensures { MergedShort (look_in (rank_of slots.now)) row.old result row.new }
 {
-    let n = row.len();
-    let mut l = linked(slots, row);
-    let mut entry = least(&l.ranks, n);
-    while entry_merged(entry) != TokenId::NONE {
-        let at = entry_place(entry) as usize;
-        let p = pair_at(&l.next, &l.prev, at);
-        l = join(slots, row, l, p, &mut entry);
+    let mut l = Links::of(slots, row);
+    let mut entry = least(&l.ranks, row.len());
+    while let Some(Entry { merged, place }) = entry {
+        let p = l.pair_at(place as usize);
+        (l, entry) = l.join(slots, row, p, merged);
     }
     compact(row, &l.next)
 }
