@@ -6,11 +6,10 @@ use Prim.Native.Nat.{ℕ, ◌≤◌, ◌<◌}
 use native.Mathlib.Omega.{arith}
 use lib.Dec.{ltb}
 use borrow.Author.Tests.{ltb-false, lt-ltb, le-ltb}
+use Rattle.std.specs.Prelude.{Err}
 use Rattle.token.specs.Refusals.{Verdict, fine, refused, verdict}
 use Rattle.token.specs.declared.Refusal.{Refusal}
 use Rattle.pretoken_cache.specs.declared.Name.{Name}
-use Rattle.pretoken_cache.specs.declared.Changed.TheVariants as changed
-use Rattle.pretoken_cache.specs.declared.ShortPretokenCache.{ShortPretokenCache}
 use Rattle.pretoken_cache.specs.Limits.{most_slots, most_asked}
 use Rattle.pretoken_cache.specs.Slot.{keyless}
 use Rattle.pretoken_cache.specs.Calls.{Answer, done, refuses, Outcome, unfit, zero_key, over_asked, first_of, unless, guarded}
@@ -114,6 +113,6 @@ pub unless_none : {v : Verdict} {a b : Answer} → fine ≡ v → b ≡ a → b 
 unless_none e i = rw (← e) i
 
 -- which leaves words and count as they were
-pub guard_refused : {f : Refusal} {v : Verdict} (words : List ℕ) (cache : ShortPretokenCache) (o : Outcome) → verdict f ≡ v
-    → Does (guarded v words cache.len o) (changed.Refused f cache) words
-guard_refused words cache o e = rw (← e) (record { answer = refl; counted = refl; left = refl })
+pub guard_refused : {A : Type 0} {f : Refusal} {v : Verdict} (words : List ℕ) (count : ℕ) (o : Outcome) → verdict f ≡ v
+    → Does {A = A} (guarded v words count o) (Err f) count words
+guard_refused words count o e = rw (← e) (record { answer = refl; counted = refl; left = refl })

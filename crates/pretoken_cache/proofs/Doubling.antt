@@ -1,15 +1,16 @@
 -- The capacity rule ends, and what it gives: a power of two that is enough, and not too many slots. Assumes nothing.
 use mathlib.Core.Path.{◌≡◌, refl, sym, ap, ◌∙◌}
 use mathlib.Core.Bool.{Bool, true, false}
-use Prim.Native.Nat.{ℕ, zero, suc, ◌+◌, ◌*◌, ◌^◌, ◌≤◌, ◌<◌}
+use Prim.Native.Nat.{ℕ, zero, suc, ◌+◌, ◌*◌, ◌^◌, ◌≤◌, ◌<◌, max}
 use native.Mathlib.Omega.{arith}
 use lib.Count.{ones, ones_in}
 use lib.Dec.{ltb}
 use lib.Pow.{pow_pos, pow_mono}
-use borrow.Author.Tests.{ltb-true, ltb-false}
+use borrow.Author.Tests.{ltb-true, ltb-false, lt-ltb, le-ltb}
+use Rattle.std.specs.Int.{IsNextPowerOfTwo}
 use Rattle.pretoken_cache.specs.Limits.{most_slots, floor_slots, most_asked}
 use Rattle.pretoken_cache.specs.Table.{laden}
-use Rattle.pretoken_cache.specs.Capacity.{doubled, doublings, power_from, larger, required}
+use Rattle.pretoken_cache.specs.Capacity.{doubled, doublings, power_from, required}
 use Rattle.pretoken_cache.proofs.Bools.{by_test}
 use Rattle.pretoken_cache.proofs.Sizes as sizes
 use Rattle.pretoken_cache.proofs.Sizes.{Size, ones_double}
@@ -34,6 +35,17 @@ module _ (small : ℕ → Bool) where
 -- a power that is below the most slots has a doubling left
 power_low : (j : ℕ) → 2 ^ j < most_slots → j < doublings
 power_low j l = by_test (ltb j doublings) (λ e. ltb-true j doublings e) (λ e. absurd (omega (arith, pow_mono (ltb-false j doublings e))))
+
+-- doubling from one power of two to a larger one, where that is enough and nothing below it is
+module _ (small : ℕ → Bool) (j : ℕ) (enough : small (2 ^ j) ≡ false) (few : (i : ℕ) → i < j → small (2 ^ i) ≡ true) where
+  doubled_to : (k i : ℕ) → i ≤ j → j ≤ i + k → doubled small k (2 ^ i) ≡ 2 ^ j
+  doubled_to zero i l r = let e : i ≡ j = omega arith in stopped small 0 (2 ^ i) (rw e enough) ∙ ap (λ (x : ℕ). 2 ^ x) e
+  doubled_to (suc k) i l r =
+      by_test (ltb i j)
+      (λ t. let e : 2 * 2 ^ i ≡ 2 ^ suc i = omega arith in
+      let t = ltb-true i j t in
+      went_on small k (2 ^ i) (few i t) ∙ rw e (doubled_to k (suc i) (omega arith) (omega arith)))
+      (λ t. let t = ltb-false i j t in let e : i ≡ j = omega arith in stopped small (suc k) (2 ^ i) (rw e enough) ∙ ap (λ (x : ℕ). 2 ^ x) e)
 
 -- ---- where it ends
 
@@ -71,13 +83,6 @@ module _ {n : ℕ} (l : n ≤ most_asked) where
   unfolding laden
   below_n s e = omega (arith, ltb-true (s * 3) ((n + 1) * 4) e)
 
--- the larger of two numbers is both
-larger_le : (a b : ℕ) → (a ≤ larger a b) × (b ≤ larger a b)
-larger_le a b = by_test (ltb a b) (λ e. rw e (omega (arith, ltb-true a b e))) (λ e. rw e (omega (arith, ltb-false a b e)))
-
-pub larger_most : (a b : ℕ) → a ≤ most_asked → b ≤ most_asked → larger a b ≤ most_asked
-larger_most a b l r = by_test (ltb a b) (λ e. rw e r) (λ e. rw e l)
-
 ones_power : (j : ℕ) → ones (2 ^ j) ≡ 1
 unfolding ones ones_in
 ones_power zero = refl
@@ -93,11 +98,10 @@ pub record Enough (n asked cap : ℕ) : Type 0 where
 pub required_enough : (n asked : ℕ) → n ≤ most_asked → asked ≤ most_asked → Enough n asked (required n asked)
 unfolding required laden
 required_enough n asked l r =
-    let x = larger asked floor_slots in
-    let p = power_ends (larger_most asked floor_slots r (omega arith)) in
+    let x = max asked floor_slots in
+    let p = power_ends (let m : max asked floor_slots ≤ most_asked = omega arith in m) in
     let d : Ends (λ s. laden s n) (required n asked) = rw p.is_power (ends (λ s. laden s n) (below_n l) doublings p.power p.low (omega arith)) in
     let up = doubled_le (λ s. laden s n) doublings (power_from x) in
-    let (a, b) = larger_le asked floor_slots in
     let le : x ≤ power_from x = ltb-false (power_from x) x p.enough in
     record {
       size = sizes.size (required n asked) (rw d.is_power (ones_power d.power)) (omega arith) (omega (arith, d.is_power, pow_mono d.low));
@@ -117,15 +121,20 @@ pub record Doubles (small : ℕ → Bool) (goal cap : ℕ) : Type 0 where
   pub reach : doublings ≤ power + left
   pub rest : doubled small left cap ≡ goal
 
-pub power_start : (x : ℕ) → Doubles (λ s. ltb s x) (power_from x) 1
+-- the next power of two is where doubling from 1 ends
+next_power : (x : ℕ) → 1 ≤ x → x ≤ most_asked → {p : ℕ} → IsNextPowerOfTwo x p → p ≡ power_from x
 unfolding power_from
-power_start x = record { power = 0; left = doublings; is_power = refl; low = omega arith; reach = omega arith; rest = refl }
+next_power x pos most {p} ((j, e), l, u) =
+    let low : j ≤ doublings = by_test (ltb doublings j) (λ t. absurd (omega (arith, pow_mono (ltb-true doublings j t)))) (λ t. ltb-false doublings j t) in
+    e ∙ sym (doubled_to (λ s. ltb s x) j (le-ltb (2 ^ j) x (omega arith)) (λ i t. lt-ltb (2 ^ i) x (omega (arith, pow_mono t))) doublings 0 (omega arith) (omega arith))
 
-pub required_start : (n asked : ℕ) → asked ≤ most_asked → Doubles (λ s. laden s n) (required n asked) (power_from (larger asked floor_slots))
+-- it begins at the next power of two of the larger number
+pub required_start : (n asked : ℕ) → asked ≤ most_asked → {x p : ℕ} → x ≡ max asked floor_slots → IsNextPowerOfTwo x p → Doubles (λ s. laden s n) (required n asked) p
 unfolding required
-required_start n asked r =
-    let p = power_ends (larger_most asked floor_slots r (omega arith)) in
-    record { power = p.power; left = doublings; is_power = p.is_power; low = p.low; reach = omega arith; rest = refl }
+required_start n asked r {x} {p} e s =
+    let m : x ≤ most_asked = omega arith in
+    let p = power_ends m in
+    rw (next_power x (omega arith) m s) (record { power = p.power; left = doublings; is_power = p.is_power; low = p.low; reach = omega arith; rest = rw e refl })
 
 module _ {small : ℕ → Bool} {goal cap : ℕ} (d : Doubles small goal cap) where
   pub doubles_most : (1 ≤ cap) × (cap ≤ most_slots)

@@ -15,7 +15,6 @@ pub mod Reading
 pub mod Turns
 pub mod Bars
 pub mod Gets
-pub mod Changes
 pub mod Grows
 pub mod Shapes
 pub mod Makes

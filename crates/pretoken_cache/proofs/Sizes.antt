@@ -10,6 +10,7 @@ use lib.Count.{ones, ones_step, count_trailing_zeros, under}
 use lib.Dec.{eqb, leb}
 use lib.ListN.{length}
 use borrow.Author.Tests.{eqb-true, eqb-false, leb-true, eq-eqb, le-leb}
+use Rattle.token.specs.Sizes.{power_within}
 use Rattle.pretoken_cache.specs.Limits.{least_slots, most_slots}
 use Rattle.pretoken_cache.specs.Slot.{width}
 use Rattle.pretoken_cache.specs.Table.{slots, proper, shaped, home, pair_mask}
@@ -72,14 +73,14 @@ pub size_double : {n : ℕ} → Size n → 2 * n ≤ most_slots → Size (2 * n)
 size_double {n} h m = size (2 * n) (ones_double n ∙ h.one) (omega (arith, h.least)) m
 
 pub proper_size : (n : ℕ) → proper n ≡ true → Size n
-unfolding proper
+unfolding proper power_within
 proper_size n e =
     let (ab, c) = both (eqb (ones n) 1 && leb least_slots n) (leb n most_slots) e in
     let (a, b) = both (eqb (ones n) 1) (leb least_slots n) ab in
     size n (eqb-true (ones n) 1 a) (leb-true least_slots n b) (leb-true n most_slots c)
 
 pub size_proper : {n : ℕ} → Size n → proper n ≡ true
-unfolding proper
+unfolding proper power_within
 size_proper {n} h = rw (eq-eqb (ones n) 1 h.one, le-leb least_slots n h.least, le-leb n most_slots h.most)
 
 -- ---- the words of so many slots

@@ -1,5 +1,5 @@
 -- The capacity rule. Assumes nothing.
-use Rattle.std.specs.Prelude.{Bool, cond, ℕ, zero, suc, ◌*◌, ltb}
+use Rattle.std.specs.Prelude.{Bool, cond, ℕ, zero, suc, ◌*◌, max, ltb}
 use Rattle.pretoken_cache.specs.Limits.{floor_slots}
 use Rattle.pretoken_cache.specs.Table.{laden}
 
@@ -16,9 +16,6 @@ doublings = 21
 unfoldable pub power_from : ℕ → ℕ
 power_from x = doubled (λ s. ltb s x) doublings 1
 
-abbrev pub larger : ℕ → ℕ → ℕ
-larger a b = cond (ltb a b) b a
-
 -- start at the larger of the asked slots and the floor, up to a power of two, and double while n entries leave no room for a new one
 unfoldable pub required : ℕ → ℕ → ℕ
-required n asked = doubled (λ s. laden s n) doublings (power_from (larger asked floor_slots))
+required n asked = doubled (λ s. laden s n) doublings (power_from (max asked floor_slots))

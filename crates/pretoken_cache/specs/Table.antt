@@ -1,6 +1,6 @@
 -- A table of slots: its shape, the walk of a name, its entries and its load. Assumes nothing.
-use Rattle.std.specs.Prelude.{Bool, ◌&&◌, cond, List, [], ◌∷◌, ℕ, zero, suc, ◌+◌, ◌-◌, ◌*◌, ◌/◌, ◌%◌, eqb, leb, ltb, length}
-use Rattle.std.specs.Int.Count.{ones}
+use Rattle.std.specs.Prelude.{Bool, ◌&&◌, cond, List, [], ◌∷◌, ℕ, zero, suc, ◌+◌, ◌-◌, ◌*◌, ◌/◌, ◌%◌, eqb, ltb, length}
+use Rattle.token.specs.Sizes.{power_within}
 use Rattle.pretoken_cache.specs.declared.Name.{Name}
 use Rattle.pretoken_cache.specs.Limits.{least_slots, most_slots}
 use Rattle.pretoken_cache.specs.Slot.{width, same, Slot, free, held, slot_at}
@@ -13,7 +13,7 @@ slots words = length words / width
 
 -- a power of two from the least to the most
 unfoldable pub proper : ℕ → Bool
-proper n = eqb (ones n) 1 && leb least_slots n && leb n most_slots
+proper n = power_within least_slots most_slots n
 
 -- the words of so many slots, and no more
 unfoldable pub shaped : List ℕ → Bool

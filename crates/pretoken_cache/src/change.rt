@@ -6,112 +6,87 @@ ghost use Rattle.pretoken_cache.specs.Table.{shaped, slots, seek as sought, weig
 ghost use Rattle.pretoken_cache.specs.Calls.{unfit, zero_key, first_of, guarded, placed, replaced, moved, carried, fits};
 ghost use Rattle.pretoken_cache.specs.Told.{walked, right as is_right, Does};
 
-use crate::{Changed, Name, ShortPretokenCache, Value, size, slot, walk};
+use crate::{Name, ShortPretokenCache, Value, size, slot, walk};
 use token::Refusal;
 
-// Where a new name may go: any empty slot, or the proposed one.
-#[derive(Clone, Copy)]
-pub(crate) enum Spot {
-    Any,
-    At(usize),
-}
-
-fn right(spot: Spot, e: usize) -> bool
-    ensures { result ≡ is_right spot e }
-{
-    match spot {
-        Spot::Any => true,
-        Spot::At(s) => e == s,
-    }
-}
-
-// A new name, where its walk stopped.
+// A new name, where its walk stopped: at any empty slot, or at the proposed one.
+#[tactic(auto, unfolding(crate::specs::Calls::placed, crate::specs::Table::slots))]
 fn settle(
-    cache: ShortPretokenCache,
+    cache: &mut ShortPretokenCache,
     words: &mut [u64],
     stop: walk::Stop,
-    spot: Spot,
+    spot: Option<usize>,
     name: Name,
     value: Value,
-) -> Changed
-    requires { (shaped words.old ≡ true) × (walked stop ≡ sought words.old name) × (cache.len ≤ most_slots) }
-    ensures { Does (placed (is_right spot) cache.len words.old name value (walked stop)) result words.new }
+) -> Result<(), Refusal>
+    requires { (shaped words.old ≡ true) × (walked stop ≡ sought words.old name) × (cache.old.len ≤ most_slots) }
+    ensures { Does (placed (is_right spot) cache.old.len words.old name value (walked stop)) result cache.new.len words.new }
 {
     let n = words.len() / ShortPretokenCache::WIDTH;
     match stop {
-        walk::Stop::Hit(s) => Changed::Refused(Refusal::AlreadyStored(s), cache),
+        walk::Stop::Hit(s) => Err(Refusal::AlreadyStored(s)),
         walk::Stop::Empty(s) => {
             if size::laden(n, cache.len) {
-                return Changed::Refused(Refusal::LoadLimit, cache);
+                return Err(Refusal::LoadLimit);
             }
             if !right(spot, s) {
-                return Changed::Refused(Refusal::OtherSlot(s), cache);
+                return Err(Refusal::OtherSlot(s));
             }
             slot::put(words, s, name, value);
-            let len = cache.len + 1;
-            Changed::Done(ShortPretokenCache { len })
+            cache.len += 1;
+            Ok(())
         }
         walk::Stop::Full => {
             if size::laden(n, cache.len) {
-                return Changed::Refused(Refusal::LoadLimit, cache);
+                return Err(Refusal::LoadLimit);
             }
-            Changed::Refused(Refusal::NoEmptySlot, cache)
+            Err(Refusal::NoEmptySlot)
         }
     }
+}
+
+fn right(spot: Option<usize>, e: usize) -> bool
+    ensures { result ≡ is_right spot e }
+{
+    spot.is_none_or(|s| e == s)
 }
 
 // A new name.
 pub(crate) fn place(
-    cache: ShortPretokenCache,
+    cache: &mut ShortPretokenCache,
     words: &mut [u64],
-    spot: Spot,
+    spot: Option<usize>,
     name: Name,
     value: Value,
-) -> Changed
-    ensures { Does (guarded (first_of (unfit cache.len (shaped words.old)) (zero_key name)) words.old cache.len (placed (is_right spot) cache.len words.old name value (sought words.old name))) result words.new }
+) -> Result<(), Refusal>
+    ensures { Does (guarded (first_of (unfit cache.old.len (shaped words.old)) (zero_key name)) words.old cache.old.len (placed (is_right spot) cache.old.len words.old name value (sought words.old name))) result cache.new.len words.new }
 {
-    match size::barred(cache.len, words, name) {
-        size::Bar::Open => {
-            let stop = walk::seek(words, name);
-            settle(cache, words, stop, spot, name, value)
-        }
-        size::Bar::Shut(f) => Changed::Refused(f, cache),
-    }
+    size::barred(cache.len, words, name)?;
+    let stop = walk::seek(words, name);
+    settle(cache, words, stop, spot, name, value)
 }
 
 // A name's value, old or new.
+#[tactic(auto, unfolding(crate::specs::Calls::replaced))]
 pub(crate) fn overwrite(
-    cache: ShortPretokenCache,
+    cache: &mut ShortPretokenCache,
     words: &mut [u64],
     name: Name,
     value: Value,
-) -> Changed
-    requires { (shaped words.old ≡ true) × (keyless name ≡ false) × (cache.len ≤ most_slots) }
-    ensures { Does (replaced cache.len words.old name value (sought words.old name)) result words.new }
+) -> Result<(), Refusal>
+    requires { (shaped words.old ≡ true) × (keyless name ≡ false) × (cache.old.len ≤ most_slots) }
+    ensures { Does (replaced cache.old.len words.old name value (sought words.old name)) result cache.new.len words.new }
 {
     let stop = walk::seek(words, name);
-    match stop {
-        walk::Stop::Hit(at) => {
-            slot::put(words, at, name, value);
-            Changed::Done(cache)
-        }
-        walk::Stop::Empty(_) => settle(cache, words, stop, Spot::Any, name, value),
-        walk::Stop::Full => settle(cache, words, stop, Spot::Any, name, value),
+    if let walk::Stop::Hit(at) = stop {
+        slot::put(words, at, name, value);
+        return Ok(());
     }
-}
-
-// All words zero.
-pub(crate) fn zero(words: &mut [u64])
-    ensures { words.new ≡ replicate (length words.old) 0 }
-{
-    let mut i = 0;
-    while i < words.len() {
-        words[i] = 0;
-        i += 1;
-    }
+    settle(cache, words, stop, None, name, value)
 }
 
 // Old slot s goes into the larger table, and counts, if it is taken.
+#[tactic(auto, unfolding(crate::specs::Calls::moved, crate::specs::Calls::seated, crate::specs::Slot::slot_at, crate::specs::Table::weight))]
 fn move_slot(words: &[u64], s: usize, into: &mut [u64]) -> usize
     requires { (width * s + width ≤ length words.now) × (shaped into.old ≡ true) }
     ensures { (into.new ≡ moved (slot_at words.now s) into.old) × (result ≡ weight (slot_at words.now s)) }
@@ -131,16 +106,14 @@ fn move_slot(words: &[u64], s: usize, into: &mut [u64]) -> usize
 }
 
 // The old entries in slot order, into a table that is empty.
+#[tactic(auto, using(crate::proofs::Grows::fits_shaped, crate::proofs::Grows::shaped_moved, crate::proofs::Grows::carried_next, crate::proofs::Grows::taken_next, crate::proofs::Table::taken_le, crate::proofs::Names::weight_le), unfolding(crate::specs::Calls::carried, crate::specs::Table::taken, crate::specs::Table::slots))]
 pub(crate) fn carry(words: &[u64], into: &mut [u64]) -> usize
     requires { fits words.now into.old ≡ true }
     ensures { (into.new ≡ carried words.now (slots words.now) into.old) × (result ≡ taken (slot_at words.now) (slots words.now)) }
 {
-    let n = words.len() / ShortPretokenCache::WIDTH;
     let mut count = 0;
-    let mut s = 0;
-    while s < n {
+    for s in 0..words.len() / ShortPretokenCache::WIDTH {
         count += move_slot(words, s, into);
-        s += 1;
     }
     count
 }

@@ -4,28 +4,15 @@ ghost use Rattle.pretoken_cache.specs.Slot.{width, same as is_same, keyless as i
 
 use crate::{Name, ShortPretokenCache, Value};
 
-pub(crate) fn same(a: Name, b: Name) -> bool
-    ensures { result ≡ is_same a b }
-{
-    if a.high != b.high {
-        return false;
-    }
-    if a.low != b.low {
-        return false;
-    }
-    a.h == b.h
-}
-
 // Is the key zero?
+#[tactic(auto, unfolding(crate::specs::Slot::keyless))]
 pub(crate) fn keyless(name: Name) -> bool
     ensures { result ≡ is_keyless name }
 {
-    if name.high != ShortPretokenCache::EMPTY_KEY {
-        return false;
-    }
-    name.low == ShortPretokenCache::EMPTY_KEY
+    name.high == ShortPretokenCache::EMPTY_KEY && name.low == ShortPretokenCache::EMPTY_KEY
 }
 
+#[tactic(auto, unfolding(crate::specs::Slot::name_at))]
 pub(crate) fn name_at(words: &[u64], s: usize) -> Name
     requires { width * s + width ≤ length words.now }
     ensures { result ≡ name_at words.now s }
@@ -38,6 +25,7 @@ pub(crate) fn name_at(words: &[u64], s: usize) -> Name
     }
 }
 
+#[tactic(auto, unfolding(crate::specs::Slot::value_at))]
 pub(crate) fn value_at(words: &[u64], s: usize) -> Value
     requires { width * s + width ≤ length words.now }
     ensures { result ≡ value_at words.now s }
@@ -49,6 +37,7 @@ pub(crate) fn value_at(words: &[u64], s: usize) -> Value
     }
 }
 
+#[tactic(auto, unfolding(crate::specs::Slot::put, crate::specs::Slot::row))]
 pub(crate) fn put(words: &mut [u64], s: usize, name: Name, value: Value)
     requires { width * s + width ≤ length words.old }
     ensures { words.new ≡ stored words.old s name value }
@@ -62,11 +51,12 @@ pub(crate) fn put(words: &mut [u64], s: usize, name: Name, value: Value)
 }
 
 // Is slot s of this name?
+#[tactic(auto, unfolding(crate::specs::Slot::same))]
 pub(crate) fn mine(words: &[u64], s: usize, name: Name) -> bool
     requires { width * s + width ≤ length words.now }
     ensures { result ≡ is_same name (name_at words.now s) }
 {
-    same(name, name_at(words, s))
+    name == name_at(words, s)
 }
 
 // Is slot s empty?

@@ -1,15 +1,15 @@
 // Walks over pairs of slots, and what the readers make of where they stop.
-ghost use Rattle.std.specs.Prelude.{◌≡◌, false, true};
+ghost use Rattle.std.specs.Prelude.{◌≡◌, false, true, Ok};
 ghost use Rattle.pretoken_cache.specs.Slot.{keyless};
 ghost use Rattle.pretoken_cache.specs.Table.{shaped, seek as sought, near, first_empty};
 ghost use Rattle.pretoken_cache.specs.Calls.{gotten, glimpsed, viewed};
 ghost use Rattle.pretoken_cache.specs.Told.{walked, told, tells_probe};
 
-use crate::{Got, Name, Probed, ShortPretokenCache, Value, slot};
+use crate::{Got, Name, ShortPretokenCache, Value, slot};
 use token::Refusal;
 
 // Where a walk stopped: at a match, at an empty slot, or nowhere.
-#[derive(Clone, Copy)]
+#[derive(Clone, Copy, PartialEq, Eq, Debug)]
 pub(crate) enum Stop {
     Hit(usize),
     Empty(usize),
@@ -73,35 +73,30 @@ pub(crate) fn first_empty(words: &[u64], h: u64) -> Stop
 }
 
 // What is stored under the name, or the first empty slot.
-pub(crate) fn got(words: &[u64], name: Name) -> Got
+#[tactic(auto, unfolding(crate::specs::Calls::gotten))]
+pub(crate) fn got(words: &[u64], name: Name) -> Result<Got, Refusal>
     requires { (shaped words.now ≡ true) × (keyless name ≡ false) }
     ensures { told result ≡ gotten words.now (sought words.now name) }
 {
     match seek(words, name) {
-        Stop::Hit(s) => Got::Found(slot::value_at(words, s)),
-        Stop::Empty(s) => Got::Missing(s),
-        Stop::Full => Got::Refused(Refusal::NoEmptySlot),
+        Stop::Hit(s) => Ok(Got::Found(slot::value_at(words, s))),
+        Stop::Empty(s) => Ok(Got::Missing(s)),
+        Stop::Full => Err(Refusal::NoEmptySlot),
     }
 }
 
-fn shown(value: Value) -> Probed
-    ensures { result ≡ Probed.Pair value.val value.ext true }
-{
-    Probed::Pair(value.val, value.ext, true)
-}
-
 // The home pair.
-pub(crate) fn probed(words: &[u64], mask: usize, name: Name) -> Probed
+pub(crate) fn probed(words: &[u64], mask: usize, name: Name) -> Option<Value>
     requires { (viewed mask words.now ≡ true) × (keyless name ≡ false) }
-    ensures { tells_probe result ≡ glimpsed words.now (near words.now name) }
+    ensures { tells_probe (Ok result) ≡ glimpsed words.now (near words.now name) }
 {
     let i = (name.h as usize) & mask;
     let j = i + 1;
     if slot::mine(words, i, name) {
-        return shown(slot::value_at(words, i));
+        return Some(slot::value_at(words, i));
     }
     if slot::mine(words, j, name) {
-        return shown(slot::value_at(words, j));
+        return Some(slot::value_at(words, j));
     }
-    Probed::Pair(0, 0, false)
+    None
 }

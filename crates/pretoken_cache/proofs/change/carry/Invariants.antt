@@ -1,12 +1,14 @@
 -- The invariant: the old slots that were passed are carried and counted. Assumes nothing.
 use mathlib.Core.Path.{◌≡◌}
-use Prim.Native.Nat.{◌-◌}
-use lib.ListN.{length}
-use Rattle.pretoken_cache.proofs.Grows.{Carrying}
+use mathlib.Core.Bool.{true}
+use Rattle.pretoken_cache.specs.Slot.{slot_at}
+use Rattle.pretoken_cache.specs.Table.{shaped, taken}
+use Rattle.pretoken_cache.specs.Calls.{carried}
 use Rattle.pretoken_cache.proofs.change.carry.Given as goal
 
 abbrev pub invariant-loop-s : goal.invariant-loop-s
-invariant-loop-s l = Carrying l.words l.initial.into l.into l.count l.s × (length l.into ≡ length l.initial.into)
-
-abbrev pub decreases-loop-s : goal.decreases-loop-s
-decreases-loop-s l = l.n - l.s
+invariant-loop-s l = record {
+  fit : shaped l.into ≡ true;
+  moves : l.into ≡ carried l.words l.s l.initial.into;
+  counts : l.count ≡ taken (slot_at l.words) l.s;
+}
