@@ -16,7 +16,7 @@ use Rattle.pretoken_cache.specs.Capacity.{required}
 use Rattle.pretoken_cache.specs.Plain as plain
 use Rattle.pretoken_cache.specs.Plain.{lookup, store, Once, Map, size, Ask, Reply, Step, still, becomes, named, read, added, renewed, anew, plainly, map_after}
 use Rattle.pretoken_cache.specs.Runs.{NoTen}
-use Rattle.pretoken_cache.proofs.Bools.{by_test}
+use Rattle.token.proofs.Cases.{by_test}
 use Rattle.pretoken_cache.proofs.Entries.{store_once}
 
 -- a probe shows what the map has

@@ -12,7 +12,7 @@ use Rattle.pretoken_cache.specs.declared.Name.{Name}
 use Rattle.pretoken_cache.specs.declared.Value.{Value}
 use Rattle.pretoken_cache.specs.Slot.{Slot, free, held}
 use Rattle.pretoken_cache.specs.Walk.{Walk, hit, empty, full}
-use Rattle.pretoken_cache.proofs.Bools.{by_test}
+use Rattle.token.proofs.Cases.{by_test}
 use Rattle.pretoken_cache.proofs.Names.{not_same, one_name, not_free}
 use Rattle.pretoken_cache.proofs.Table.{value_in, value_of, Maps, Orders, finds, Rep, hit_held}
 

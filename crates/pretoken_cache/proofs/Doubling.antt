@@ -11,7 +11,7 @@ use Rattle.std.specs.Int.{IsNextPowerOfTwo}
 use Rattle.pretoken_cache.specs.Limits.{most_slots, floor_slots, most_asked}
 use Rattle.pretoken_cache.specs.Table.{laden}
 use Rattle.pretoken_cache.specs.Capacity.{doubled, doublings, power_from, required}
-use Rattle.pretoken_cache.proofs.Bools.{by_test}
+use Rattle.token.proofs.Cases.{by_test}
 use Rattle.pretoken_cache.proofs.Sizes as sizes
 use Rattle.pretoken_cache.proofs.Sizes.{Size, ones_double}
 

@@ -10,7 +10,7 @@ use Rattle.pretoken_cache.specs.declared.Name.{Name}
 use Rattle.pretoken_cache.specs.declared.Value.{Value}
 use Rattle.pretoken_cache.specs.Slot.{same}
 use Rattle.pretoken_cache.specs.Plain.{Entries, lookup, store, Once}
-use Rattle.pretoken_cache.proofs.Bools.{by_test}
+use Rattle.token.proofs.Cases.{by_test}
 use Rattle.pretoken_cache.proofs.Names.{same_refl, by_name, not_same}
 use Rattle.pretoken_cache.proofs.Table.{Maps}
 

@@ -11,7 +11,6 @@ pub mod Sims
 pub mod Asks
 pub mod Map
 pub mod Doubling
-pub mod Reading
 pub mod Turns
 pub mod Bars
 pub mod Gets

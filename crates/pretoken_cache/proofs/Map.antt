@@ -18,7 +18,8 @@ use Rattle.pretoken_cache.specs.Calls as calls
 use Rattle.pretoken_cache.specs.Calls.{Answer, Outcome, unfit, zero_key, first_of, unless, guarded, gotten, emptied, over_asked}
 use Rattle.pretoken_cache.specs.Plain.{lookup, Once, Map, nothing_in, plainly, map_after}
 use Rattle.pretoken_cache.specs.Runs.{Fresh, Call, probe, call, forget, run, after, ends, ask, asked, NoTen}
-use Rattle.pretoken_cache.proofs.Bools.{by_test, both}
+use Rattle.token.proofs.Cases.{by_test}
+use Rattle.pretoken_cache.proofs.Bools.{both}
 use Rattle.pretoken_cache.proofs.Sizes.{shape, shaped_as}
 use Rattle.pretoken_cache.proofs.Bars.{refuses≢done}
 use Rattle.pretoken_cache.proofs.Sims.{Holds, holds_none, sim_call}

@@ -16,7 +16,8 @@ use Rattle.pretoken_cache.specs.declared.Value.{Value}
 use Rattle.pretoken_cache.specs.Slot.{same, keyless, width, row, word, name_at, value_at, Slot, free, held, slot_at, put}
 use Rattle.pretoken_cache.specs.Walk.{vacant, mine, other}
 use Rattle.pretoken_cache.specs.Table.{sight, blind, weight}
-use Rattle.pretoken_cache.proofs.Bools.{by_test, both}
+use Rattle.token.proofs.Cases.{by_test}
+use Rattle.pretoken_cache.proofs.Bools.{both}
 use Rattle.pretoken_cache.proofs.Walks.{Wrote, vacant≢mine, other≢mine, vacant≢other}
 
 -- ---- one name

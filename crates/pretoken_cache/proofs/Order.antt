@@ -9,7 +9,7 @@ use lib.Dec.{eqb, ltb}
 use borrow.Author.Tests.{eqb-true, eqb-false, ltb-true, ltb-false}
 use Rattle.pretoken_cache.specs.Walk.{around}
 use Rattle.pretoken_cache.specs.Table.{home, order}
-use Rattle.pretoken_cache.proofs.Bools.{by_test}
+use Rattle.token.proofs.Cases.{by_test}
 use Rattle.pretoken_cache.proofs.Walks.{All, In}
 use Rattle.pretoken_cache.proofs.Table.{Orders}
 use Rattle.pretoken_cache.proofs.Sizes.{Size}

@@ -13,7 +13,8 @@ use Rattle.pretoken_cache.specs.Limits.{most_slots}
 use Rattle.pretoken_cache.specs.Walk.{Walk, hit, empty, full}
 use Rattle.pretoken_cache.specs.Table.{slots, shaped, seek, laden}
 use Rattle.pretoken_cache.specs.Calls.{done, unfit, zero_key, placed, insert_at, fits}
-use Rattle.pretoken_cache.proofs.Bools.{by_test, both}
+use Rattle.token.proofs.Cases.{by_test}
+use Rattle.pretoken_cache.proofs.Bools.{both}
 use Rattle.pretoken_cache.proofs.Sizes.{shape}
 use Rattle.pretoken_cache.proofs.Bars.{refuses≢done, Open}
 

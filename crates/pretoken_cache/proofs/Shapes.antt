@@ -11,17 +11,23 @@ use Rattle.pretoken_cache.specs.Limits.{most_slots}
 use Rattle.pretoken_cache.specs.Slot.{width}
 use Rattle.pretoken_cache.specs.Table.{slots, proper, shaped, pair_mask}
 use Rattle.pretoken_cache.specs.Calls.{viewed}
-use Rattle.pretoken_cache.proofs.Bools.{both, one_test}
+use Rattle.std.specs.Cmp.{both_ways}
+use Rattle.pretoken_cache.proofs.Bools.{both}
 use Rattle.pretoken_cache.proofs.Sizes.{Size, proper_size, size_proper, shape, shape_is, slots_are}
 
 module _ (mask : ℕ) (words : List ℕ) where
+  pub view_shape : viewed mask words ≡ true → (shaped words ≡ true) × (mask ≡ pair_mask (slots words))
+  unfolding viewed
+  view_shape e =
+      let (a, b) = both (shaped words) (eqb mask (pair_mask (slots words))) e in
+      (a, eqb-true mask (pair_mask (slots words)) b)
+
   -- a view is one of words of mask + 2 slots
   view_is : viewed mask words ≡ true → (length words ≡ width * (mask + 2)) × Size (mask + 2)
-  unfolding viewed
   view_is e =
-      let (a, b) = both (shaped words) (eqb mask (pair_mask (slots words))) e in
+      let (a, b) = view_shape e in
       let (l, z) = shape words a in
-      let i : slots words ≡ mask + 2 = omega (arith, eqb-true mask (pair_mask (slots words)) b, z.least) in
+      let i : slots words ≡ mask + 2 = omega (arith, b, z.least) in
       (omega arith, rw i at z)
 
   -- it is seen with no division
@@ -31,7 +37,7 @@ module _ (mask : ℕ) (words : List ℕ) where
 
   pub viewed_is : viewed mask words ≡ (leb mask most_slots && eqb (length words) (width * (mask + 2)) && proper (mask + 2))
   viewed_is =
-      one_test (viewed mask words) (leb mask most_slots && eqb (length words) (width * (mask + 2)) && proper (mask + 2))
+      both_ways (viewed mask words) (leb mask most_slots && eqb (length words) (width * (mask + 2)) && proper (mask + 2))
       (λ e. let (a, z) = view_is e in rw (le-leb mask most_slots (omega (arith, z.most)), eq-eqb (length words) (width * (mask + 2)) a, size_proper z))
       (λ e. let (ab, c) = both (leb mask most_slots && eqb (length words) (width * (mask + 2))) (proper (mask + 2)) e in
       let (a, b) = both (leb mask most_slots) (eqb (length words) (width * (mask + 2))) ab in

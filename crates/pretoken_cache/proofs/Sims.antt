@@ -21,7 +21,9 @@ use Rattle.pretoken_cache.specs.Calls.{Answer, Outcome, unfit, zero_key, first_o
 use Rattle.pretoken_cache.specs.Plain as plain
 use Rattle.pretoken_cache.specs.Plain.{Entries, lookup, store, Map, size, nothing_in, Reply, Step, still, becomes, named, read, added, renewed, anew}
 use Rattle.pretoken_cache.specs.Runs.{Call, get, insert, insert_at, replace, grow, clear, reset, with_at_least, capacity, view, probe, onto, call, forget, ends, meets, ask}
-use Rattle.pretoken_cache.proofs.Bools.{by_test, both, one_test}
+use Rattle.token.proofs.Cases.{by_test}
+use Rattle.std.specs.Cmp.{both_ways}
+use Rattle.pretoken_cache.proofs.Bools.{both}
 use Rattle.pretoken_cache.proofs.Names.{value_held}
 use Rattle.pretoken_cache.proofs.Table.{by_walk, finds, found_some, found_none, not_full}
 use Rattle.pretoken_cache.proofs.Sizes.{Size, size_double, proper_size, size_proper, shape, shape_is, slots_are}
@@ -48,7 +50,7 @@ holds_none words z e = record { fit = z; stands = stands_none z words e; sized =
 -- a lent row is a table of n slots
 row_fits : (into : List ℕ) (n : ℕ) → shaped into && eqb (slots into) n ≡ proper n && eqb (length into) (width * n)
 row_fits into n =
-    one_test (shaped into && eqb (slots into) n) (proper n && eqb (length into) (width * n))
+    both_ways (shaped into && eqb (slots into) n) (proper n && eqb (length into) (width * n))
     (λ e. let (a, b) = both (shaped into) (eqb (slots into) n) e in
     let (l, z) = shape into a in
     let i = eqb-true (slots into) n b in
@@ -174,7 +176,7 @@ module _ {count : ℕ} {words : List ℕ} {map : Map} (h : Holds count words map
   fits_is : (into : List ℕ) → fits words into ≡ leb (2 * n) most_slots && eqb (length into) (width * (2 * n))
   unfolding fits
   fits_is into =
-      one_test (fits words into) (leb (2 * n) most_slots && eqb (length into) (width * (2 * n)))
+      both_ways (fits words into) (leb (2 * n) most_slots && eqb (length into) (width * (2 * n)))
       (λ e. let (ab, c) = both (shaped words && shaped into) (eqb (length into) (2 * length words)) e in
       let l : length into ≡ width * (2 * n) = omega (arith, eqb-true (length into) (2 * length words) c, h.stands.whole) in
       let z = (shape into (both (shaped words) (shaped into) ab).1).1 in

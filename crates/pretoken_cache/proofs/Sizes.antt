@@ -6,15 +6,17 @@ use Prim.Native.Nat.{ℕ, zero, suc, ◌+◌, ◌-◌, ◌*◌, ◌/◌, ◌%◌
 use native.Mathlib.Numerals.{add-one}
 use native.Mathlib.Omega.{arith}
 use lib.Bits.{bit_and, and_mask, and_shr, and_high}
-use lib.Count.{ones, ones_step, count_trailing_zeros, under}
+use lib.Count.{ones, ones_step}
 use lib.Dec.{eqb, leb}
 use lib.ListN.{length}
 use borrow.Author.Tests.{eqb-true, eqb-false, leb-true, eq-eqb, le-leb}
+use Rattle.std.proofs.lemmas.Nat.{zero_from_ones}
 use Rattle.token.specs.Sizes.{power_within}
 use Rattle.pretoken_cache.specs.Limits.{least_slots, most_slots}
 use Rattle.pretoken_cache.specs.Slot.{width}
 use Rattle.pretoken_cache.specs.Table.{slots, proper, shaped, home, pair_mask}
-use Rattle.pretoken_cache.proofs.Bools.{by_test, both}
+use Rattle.token.proofs.Cases.{by_test}
+use Rattle.pretoken_cache.proofs.Bools.{both}
 
 -- ---- one set bit
 
@@ -22,38 +24,23 @@ ones_0 : ones 0 ≡ 0
 unfolding ones
 ones_0 = refl
 
--- no set bit: the number is 0
-none_set : (k n : ℕ) → n < 2 ^ k → ones n ≡ 0 → n ≡ 0
-none_set zero n h e = omega arith
-none_set (suc k) n h e = omega (arith, ones_step n, none_set k (n / 2) (omega arith) (omega (arith, ones_step n)))
-
 -- one set bit: a power of two
-one_set : (k n : ℕ) → n < 2 ^ k → ones n ≡ 1 → n ≡ 2 ^ count_trailing_zeros k n
-unfolding count_trailing_zeros
-one_set zero n h e = let z : n ≡ 0 = omega arith in let o = ap ones z ∙ ones_0 in omega arith
-one_set (suc k) n h e = go (λ o. one_set k (n / 2) (omega arith) o) (n % 2) refl
-  where
-    go : (ones (n / 2) ≡ 1 → n / 2 ≡ 2 ^ count_trailing_zeros k (n / 2)) → (d : ℕ) → n % 2 ≡ d → n ≡ 2 ^ count_trailing_zeros (suc k) n
-    go rest zero p =
-        let s = ones_step n in
-        let ih : n / 2 ≡ 2 ^ count_trailing_zeros k (n / 2) = rest (omega arith) in
-        let t : count_trailing_zeros (suc k) n ≡ suc (count_trailing_zeros k (n / 2)) = ap (λ (x : ℕ). under x (count_trailing_zeros k (n / 2))) p in
-        let up : n ≡ 2 ^ suc (count_trailing_zeros k (n / 2)) = omega arith in
-        up ∙ ap (λ (x : ℕ). 2 ^ x) (sym t)
-    go rest (suc d) p =
-        let s = ones_step n in
-        let o : ones (n / 2) ≡ 0 = omega arith in
-        let z : n / 2 ≡ 0 = none_set k (n / 2) (omega arith) o in
-        let t : count_trailing_zeros (suc k) n ≡ 0 = ap (λ (x : ℕ). under x (count_trailing_zeros k (n / 2))) p in
-        let one : n ≡ 2 ^ 0 = omega arith in
-        one ∙ ap (λ (x : ℕ). 2 ^ x) (sym t)
+power_of : (j n : ℕ) → n < 2 ^ j → ones n ≡ 1 → (k : ℕ) × (n ≡ 2 ^ k)
+power_of zero n h e = let z : n ≡ 0 = omega arith in let o = ap ones z ∙ ones_0 in absurd (omega arith)
+power_of (suc j) n h e =
+    by_test (eqb (n % 2) 0)
+    (λ d. let even = eqb-true (n % 2) 0 d in
+    let (k, i) = power_of j (n / 2) (omega arith) (omega (arith, ones_step n)) in
+    (suc k, omega arith))
+    (λ d. let odd = eqb-false (n % 2) 0 d in
+    let z : n / 2 ≡ 0 = zero_from_ones (n / 2) (omega (arith, ones_step n)) in
+    (0, omega arith))
 
-even_of : (k n : ℕ) → 2 ≤ n → n < 2 ^ k → ones n ≡ 1 → n % 2 ≡ 0
-even_of k n l m e =
+even_of : (n : ℕ) → 2 ≤ n → ones n ≡ 1 → n % 2 ≡ 0
+even_of n l e =
     by_test (eqb (n % 2) 0) (λ d. eqb-true (n % 2) 0 d)
-    (λ d. let d = eqb-false (n % 2) 0 d in
-    let o : ones (n / 2) ≡ 0 = omega (arith, ones_step n) in
-    omega (arith, none_set k (n / 2) (omega arith) o))
+    (λ d. let odd = eqb-false (n % 2) 0 d in
+    omega (arith, zero_from_ones (n / 2) (omega (arith, ones_step n))))
 
 -- ---- a power of two from the least to the most
 
@@ -64,7 +51,7 @@ pub record Size (n : ℕ) : Type 0 where
   pub even : n % 2 ≡ 0
 
 pub size : (n : ℕ) → ones n ≡ 1 → least_slots ≤ n → n ≤ most_slots → Size n
-size n o l m = record { one = o; least = l; most = m; even = even_of 64 n l (omega arith) o }
+size n o l m = record { one = o; least = l; most = m; even = even_of n l o }
 
 pub ones_double : (n : ℕ) → ones (2 * n) ≡ ones n
 ones_double n = let e : 2 * n / 2 ≡ n = omega arith in omega (arith, ones_step (2 * n), ap ones e)
@@ -95,6 +82,9 @@ shape words e =
     let (a, b) = both (eqb (length words) (width * slots words)) (proper (slots words)) e in
     (eqb-true (length words) (width * slots words) a, proper_size (slots words) b)
 
+pub slots_most : (words : List ℕ) → shaped words ≡ true → slots words ≤ most_slots
+slots_most words e = (shape words e).1.most
+
 pub shape_is : (words : List ℕ) {n : ℕ} → length words ≡ width * n → Size n → shaped words ≡ true
 unfolding shaped
 shape_is words {n} e h = rw (slots_are words e, eq-eqb (length words) (width * n) e, size_proper h)
@@ -111,8 +101,8 @@ module _ {n : ℕ} (z : Size n) where
   half : (k : ℕ) × (n ≡ 2 ^ suc k)
   half =
       let o : ones (n / 2) ≡ 1 = omega (arith, ones_step n, z.one, z.even) in
-      let e = one_set 64 (n / 2) (omega (arith, z.most)) o in
-      (count_trailing_zeros 64 (n / 2), omega (arith, e, z.even))
+      let (k, e) = power_of 64 (n / 2) (omega (arith, z.most)) o in
+      (k, omega (arith, e, z.even))
 
   pub mask_mod : (x : ℕ) → bit_and x (n - 1) ≡ x % n
   mask_mod x = let (k, e) = half in rw e (and_mask x (suc k))

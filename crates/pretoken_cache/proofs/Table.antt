@@ -13,7 +13,7 @@ use Rattle.pretoken_cache.specs.declared.Value.{Value}
 use Rattle.pretoken_cache.specs.Slot.{same, Slot, free, held}
 use Rattle.pretoken_cache.specs.Walk.{Sight, vacant, Walk, hit, empty, full, walk}
 use Rattle.pretoken_cache.specs.Table.{sight, blind, weight, taken}
-use Rattle.pretoken_cache.proofs.Bools.{by_test}
+use Rattle.token.proofs.Cases.{by_test}
 use Rattle.pretoken_cache.proofs.Walks.{Wrote, All, In, Walks, walks, walk_is, stops, crowded, blindly, meets, meets_still, vacant≢other}
 use Rattle.pretoken_cache.proofs.Names.{by_name, not_same, one_name, not_free, see_mine, see_other, see_name, see_free, is_mine, is_free, blind_see, blind≢mine, weight_free, weight_held, is_weightless, weight_le}
 

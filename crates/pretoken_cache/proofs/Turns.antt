@@ -1,52 +1,79 @@
 -- A loop that walks: what is left of the walk at each turn. Assumes nothing.
 use mathlib.Core.Path.{◌≡◌, refl, sym, ap, ◌∙◌}
 use mathlib.Core.Logic.{◌≢◌}
-use mathlib.Core.Bool.{true, false}
+use mathlib.Core.Bool.{Bool, true, false, ◌&&◌, cond, false≢true}
 use mathlib.Core.List.{List, ◌∷◌}
-use Prim.Native.Nat.{ℕ, zero, suc, ◌+◌, ◌-◌, ◌*◌, ◌/◌, ◌%◌, ◌≤◌, ◌<◌}
+use Prim.Native.Nat.{ℕ, zero, suc, ◌+◌, ◌-◌, ◌/◌, ◌%◌, ◌<◌}
 use native.Mathlib.Omega.{arith}
 use lib.Bits.{bit_and}
-use lib.ListN.{length}
 use Rattle.pretoken_cache.specs.declared.Name.{Name}
-use Rattle.pretoken_cache.specs.Limits.{least_slots, most_slots}
-use Rattle.pretoken_cache.specs.Slot.{same, keyless, width, name_at, slot_at}
+use Rattle.pretoken_cache.specs.Slot.{same, keyless, name_at, slot_at}
 use Rattle.pretoken_cache.specs.Walk.{Sight, vacant, mine, other, Walk, hit, empty, full, walk, around}
 use Rattle.pretoken_cache.specs.Table.{slots, shaped, order, sight, seek, blind, first_empty}
-use Rattle.pretoken_cache.proofs.Bools.{by_test}
+use Rattle.token.proofs.Cases.{by_test}
 use Rattle.pretoken_cache.proofs.Walks.{Walks, first, second, third, fourth, next, walks, walk_is, vacant≢mine, other≢mine}
 use Rattle.pretoken_cache.proofs.Names.{same_eq, blind≢mine}
 use Rattle.pretoken_cache.proofs.Sizes.{Size, shape, mask_mod, mask_home}
 use Rattle.pretoken_cache.proofs.Order.{Even, home_even, even_next}
 
--- ---- what two tests of a slot say
+-- ---- what the tests of a slot say, of its name n
 
-module _ (words : List ℕ) (s : ℕ) where
-  module _ (m : Name) where
-    pub sees_mine : keyless m ≡ false → same m (name_at words s) ≡ true → sight m (slot_at words s) ≡ mine
-    unfolding slot_at sight
-    sees_mine k e = rw (sym (ap keyless (same_eq m (name_at words s) e)) ∙ k, e)
+module _ (words : List ℕ) (s : ℕ) (m : Name) {n : Name} (r : n ≡ name_at words s) where
+  pub sees_mine : keyless m ≡ false → same m n ≡ true → sight m (slot_at words s) ≡ mine
+  unfolding slot_at sight
+  sees_mine k e = rw (← r) (rw (sym (ap keyless (same_eq m n e)) ∙ k, e))
 
-    pub sees_not_mine : same m (name_at words s) ≡ false → sight m (slot_at words s) ≢ mine
-    unfolding slot_at sight
-    sees_not_mine e = by_test (keyless (name_at words s)) (λ k. rw k vacant≢mine) (λ k. rw (k, e) other≢mine)
+  pub sees_not_mine : same m n ≡ false → sight m (slot_at words s) ≢ mine
+  unfolding slot_at sight
+  sees_not_mine e = rw (← r) (by_test (keyless n) (λ k. rw k vacant≢mine) (λ k. rw (k, e) other≢mine))
 
-    sees_vacant : keyless (name_at words s) ≡ true → sight m (slot_at words s) ≡ vacant
-    unfolding slot_at sight
-    sees_vacant k = rw k
+  sees_vacant : keyless n ≡ true → sight m (slot_at words s) ≡ vacant
+  unfolding slot_at sight
+  sees_vacant k = rw (← r, k)
 
-    sees_other : keyless (name_at words s) ≡ false → same m (name_at words s) ≡ false → sight m (slot_at words s) ≡ other
-    unfolding slot_at sight
-    sees_other k e = rw (k, e)
+  sees_other : keyless n ≡ false → same m n ≡ false → sight m (slot_at words s) ≡ other
+  unfolding slot_at sight
+  sees_other k e = rw (← r, k, e)
 
   -- with no look for matches
 
-  blind_vacant : keyless (name_at words s) ≡ true → blind (slot_at words s) ≡ vacant
+  blind_vacant : keyless n ≡ true → blind (slot_at words s) ≡ vacant
   unfolding slot_at blind
-  blind_vacant k = rw k
+  blind_vacant k = rw (← r, k)
 
-  blind_other : keyless (name_at words s) ≡ false → blind (slot_at words s) ≡ other
+  blind_other : keyless n ≡ false → blind (slot_at words s) ≡ other
   unfolding slot_at blind
-  blind_other k = rw k
+  blind_other k = rw (← r, k)
+
+-- ---- the walk of a name m, which is sought or not
+
+abbrev pub sees : Bool → List ℕ → Name → ℕ → Sight
+sees b words m s = cond b (sight m (slot_at words s)) (blind (slot_at words s))
+
+abbrev pub stops_at : Bool → List ℕ → Name → Walk
+stops_at b words m = cond b (seek words m) (first_empty words m.h)
+
+stops_by : (b : Bool) (words : List ℕ) (m : Name) → stops_at b words m ≡ walk (sees b words m) (order (slots words) m.h)
+unfolding seek first_empty
+stops_by true words m = refl
+stops_by false words m = refl
+
+module _ (words : List ℕ) (s : ℕ) (m : Name) {n : Name} (r : n ≡ name_at words s) where
+  is_mine : (b : Bool) → keyless m ≡ false → b && same m n ≡ true → sees b words m s ≡ mine
+  is_mine true k e = sees_mine words s m r k e
+  is_mine false k e = absurd (false≢true e)
+
+  is_not : (b : Bool) → b && same m n ≡ false → sees b words m s ≢ mine
+  is_not true e = sees_not_mine words s m r e
+  is_not false e = blind≢mine (slot_at words s)
+
+  is_vacant : (b : Bool) → keyless n ≡ true → sees b words m s ≡ vacant
+  is_vacant true k = sees_vacant words s m r k
+  is_vacant false k = blind_vacant words s m r k
+
+  is_other : (b : Bool) → keyless n ≡ false → b && same m n ≡ false → sees b words m s ≡ other
+  is_other true k e = sees_other words s m r k e
+  is_other false k e = blind_other words s m r k
 
 -- ---- the turns
 
@@ -55,90 +82,53 @@ unfolding around
 around_step n i zero l = absurd (omega arith)
 around_step n i (suc k) l = let e : suc k - 1 ≡ k = omega arith in rw e
 
--- at the pair of slot i, with `left` pairs to go, the walk that is left stops where the whole walk stops, at w
-pub record Turn (see : ℕ → Sight) (words : List ℕ) (w : Walk) (i left : ℕ) : Type 0 where
+-- at the pair of slot i, with `left` pairs to go, the walk that is left stops where the whole walk does
+pub record Turn (b : Bool) (words : List ℕ) (m : Name) (i left : ℕ) : Type 0 where
   pub place : Even (slots words) i
-  pub rest : walk see (around (slots words) left i) ≡ w
+  pub rest : walk (sees b words m) (around (slots words) left i) ≡ stops_at b words m
 
--- of the walk for a name, and of the walk that looks for no match
-abbrev pub Seeks : List ℕ → Name → ℕ → ℕ → Type 0
-Seeks words m = Turn (λ s. sight m (slot_at words s)) words (seek words m)
-
-abbrev pub Empties : List ℕ → ℕ → ℕ → ℕ → Type 0
-Empties words h = Turn (λ s. blind (slot_at words s)) words (first_empty words h)
-
-module _ (words : List ℕ) (ok : shaped words ≡ true) where
+module _ (b : Bool) (words : List ℕ) (ok : shaped words ≡ true) (m : Name) where
   z : Size (slots words)
   z = (shape words ok).1
 
-  pub at_least : (least_slots ≤ length words / width) × (length words / width ≤ most_slots)
-  unfolding slots
-  at_least = (z.least, z.most)
-
-  start : (see : ℕ → Sight) (h : ℕ) → Turn see words (walk see (order (slots words) h)) (bit_and h (length words / width - 2)) (length words / width / 2)
-  unfolding slots order
-  start see h = rw (mask_home z h) (record { place = home_even z h; rest = refl })
-
-  pub seek_start : (m : Name) → Seeks words m (bit_and m.h (length words / width - 2)) (length words / width / 2)
-  unfolding seek
-  seek_start m = start (λ s. sight m (slot_at words s)) m.h
-
-  pub empty_start : (h : ℕ) → Empties words h (bit_and h (length words / width - 2)) (length words / width / 2)
-  unfolding first_empty
-  empty_start h = start (λ s. blind (slot_at words s)) h
-
-  -- a pair is in the table
-  pub pair_fits : {i : ℕ} → Even (slots words) i → (width * i + width ≤ length words) × (width * (i + 1) + width ≤ length words)
-  pair_fits e = let (l, z) = shape words ok in omega (arith, e.inside, e.even, z.even)
+  pub turn_start : {n : ℕ} → n ≡ slots words → Turn b words m (bit_and m.h (n - 2)) (n / 2)
+  unfolding order
+  turn_start e = rw (e, mask_home z m.h) (record { place = home_even z m.h; rest = sym (stops_by b words m) })
 
   -- at a turn
-  module _ {see : ℕ → Sight} {w : Walk} {i left : ℕ} (t : Turn see words w i left) where
-    pub turn_fits : (width * i + width ≤ length words) × (width * (i + 1) + width ≤ length words)
-    turn_fits = pair_fits t.place
+  module _ {i left : ℕ} (t : Turn b words m i left) where
+    pub turn_fits : i + 1 < slots words
+    turn_fits = omega (arith, t.place.inside, t.place.even, z.even)
 
-    pub turn_over : left ≡ 0 → full ≡ w
+    pub turn_over : left ≡ 0 → full ≡ stops_at b words m
     unfolding around walk
     turn_over e = rw e at t.rest
 
     module _ (pos : 0 < left) where
       -- the walk that is left goes the way that is found
-      goes : {v : Walk} → Walks see (i ∷ around (slots words) (left - 1) ((i + 2) % slots words)) v → v ≡ w
-      goes h = sym (walk_is h) ∙ ap (walk see) (sym (around_step (slots words) i left pos)) ∙ t.rest
+      goes : {v : Walk} → Walks (sees b words m) (i ∷ around (slots words) (left - 1) ((i + 2) % slots words)) v → v ≡ stops_at b words m
+      goes h = sym (walk_is h) ∙ ap (walk (sees b words m)) (sym (around_step (slots words) i left pos)) ∙ t.rest
 
-      turn_on : see i ≡ other → see (i + 1) ≡ other → Turn see words w (bit_and (i + 2) (length words / width - 1)) (left - 1)
-      unfolding slots
-      turn_on a b =
-          rw (mask_mod z (i + 2)) (record {
-            place = even_next z t.place;
-            rest = goes (next a b (walks (around (slots words) (left - 1) ((i + 2) % slots words))));
-          })
+      -- by the names of the two slots
+      module _ {n : Name} (r : n ≡ name_at words i) where
+        pub turn_first : keyless m ≡ false → b && same m n ≡ true → hit i ≡ stops_at b words m
+        turn_first k e = goes (first (is_mine words i m r b k e))
 
-  module _ (m : Name) {i left : ℕ} (t : Seeks words m i left) (pos : 0 < left) where
-    pub turn_first : keyless m ≡ false → same m (name_at words i) ≡ true → hit i ≡ seek words m
-    turn_first k a = goes t pos (first (sees_mine words i m k a))
+        module _ (e : b && same m n ≡ false) {n' : Name} (r' : n' ≡ name_at words (i + 1)) where
+          pub turn_second : keyless m ≡ false → b && same m n' ≡ true → hit (i + 1) ≡ stops_at b words m
+          turn_second k f = goes (second (is_not words i m r b e) (is_mine words (i + 1) m r' b k f))
 
-    module _ (a : same m (name_at words i) ≡ false) where
-      pub turn_second : keyless m ≡ false → same m (name_at words (i + 1)) ≡ true → hit (i + 1) ≡ seek words m
-      turn_second k b = goes t pos (second (sees_not_mine words i m a) (sees_mine words (i + 1) m k b))
+          module _ (f : b && same m n' ≡ false) where
+            pub turn_third : keyless n ≡ true → empty i ≡ stops_at b words m
+            turn_third k = goes (third (is_vacant words i m r b k) (is_not words (i + 1) m r' b f))
 
-      module _ (b : same m (name_at words (i + 1)) ≡ false) where
-        pub turn_third : keyless (name_at words i) ≡ true → empty i ≡ seek words m
-        turn_third k = goes t pos (third (sees_vacant words i m k) (sees_not_mine words (i + 1) m b))
+            module _ (k : keyless n ≡ false) where
+              pub turn_fourth : keyless n' ≡ true → empty (i + 1) ≡ stops_at b words m
+              turn_fourth l = goes (fourth (is_other words i m r b k e) (is_vacant words (i + 1) m r' b l))
 
-        module _ (k : keyless (name_at words i) ≡ false) where
-          pub turn_fourth : keyless (name_at words (i + 1)) ≡ true → empty (i + 1) ≡ seek words m
-          turn_fourth l = goes t pos (fourth (sees_other words i m k a) (sees_vacant words (i + 1) m l))
-
-          pub turn_next : keyless (name_at words (i + 1)) ≡ false → Seeks words m (bit_and (i + 2) (length words / width - 1)) (left - 1)
-          turn_next l = turn_on t pos (sees_other words i m k a) (sees_other words (i + 1) m l b)
-
-  module _ (h : ℕ) {i left : ℕ} (t : Empties words h i left) (pos : 0 < left) where
-    pub empty_first : keyless (name_at words i) ≡ true → empty i ≡ first_empty words h
-    empty_first k = goes t pos (third (blind_vacant words i k) (blind≢mine (slot_at words (i + 1))))
-
-    module _ (k : keyless (name_at words i) ≡ false) where
-      pub empty_second : keyless (name_at words (i + 1)) ≡ true → empty (i + 1) ≡ first_empty words h
-      empty_second l = goes t pos (fourth (blind_other words i k) (blind_vacant words (i + 1) l))
-
-      pub empty_next : keyless (name_at words (i + 1)) ≡ false → Empties words h (bit_and (i + 2) (length words / width - 1)) (left - 1)
-      empty_next l = turn_on t pos (blind_other words i k) (blind_other words (i + 1) l)
+              pub turn_next : keyless n' ≡ false → Turn b words m (bit_and (i + 2) (slots words - 1)) (left - 1)
+              turn_next l =
+                  rw (mask_mod z (i + 2)) (record {
+                    place = even_next z t.place;
+                    rest = goes (next (is_other words i m r b k e) (is_other words (i + 1) m r' b l f) (walks (around (slots words) (left - 1) ((i + 2) % slots words))));
+                  })

@@ -1,5 +1,5 @@
 -- The code's answers as those of the paper, with its numbers, and what a changing call promises. Assumes nothing.
-use Rattle.std.specs.Prelude.{◌≡◌, Bool, true, false, List, ℕ, eqb, Option, Some, None, Result, Ok, Err}
+use Rattle.std.specs.Prelude.{◌≡◌, ◌<◌, Bool, true, false, List, ℕ, eqb, Option, Some, None, Result, Ok, Err}
 use Rattle.token.specs.declared.Refusal.{Refusal}
 use Rattle.token.specs.Refusals.{number, place, Verdict, fine, verdict}
 use Rattle.pretoken_cache.specs.Walk.{Walk, hit, empty, full}
@@ -54,6 +54,12 @@ abbrev pub walked : Stop → Walk
 walked (stop.Hit s) = hit s
 walked (stop.Empty s) = empty s
 walked stop.Full = full
+
+-- where it stopped is one of n slots
+abbrev pub Inside : Stop → ℕ → Type 0
+Inside (stop.Hit s) n = s < n
+Inside (stop.Empty s) n = s < n
+Inside stop.Full n = Unit {0}
 
 abbrev pub barred : {A : Type 0} → Result A Refusal → Verdict
 barred (Ok r) = fine

@@ -2,11 +2,16 @@
 // run of them answers as a plain map (Map.antt).
 #![tactic(auto)]
 
-ghost use Rattle.std.specs.Prelude.{◌≡◌};
-ghost use Rattle.pretoken_cache.specs.Calls.{get, insert as inserted, insert_at as inserted_at, replace as replaced, clear as cleared, reset, with_at_least, capacity as capacity_of, required, grow as grown, view, probe};
-ghost use Rattle.pretoken_cache.specs.Told.{told, tells_size, tells_view, tells_probe, count_made, Does};
+ghost use Rattle.std.specs.Prelude.{◌≡◌, ◌≤◌, IfOk, OnOk};
+ghost use Rattle.pretoken_cache.specs.Limits.{most_slots};
+ghost use Rattle.pretoken_cache.specs.Table.{shaped};
+ghost use Rattle.pretoken_cache.specs.Calls.{get, insert as inserted, insert_at as inserted_at, replace as replaced, clear as cleared, reset, with_at_least, capacity as capacity_of, required, unfit, grow as grown, view, probe};
+ghost use Rattle.pretoken_cache.specs.Told.{told, tells_size, tells_view, tells_probe, count_made, barred, Does};
 
+use size::Table;
+use slot::{Keyed, Slot};
 use token::Refusal;
+use walk::Stop;
 
 mod change;
 mod size;
@@ -78,15 +83,25 @@ impl ShortPretokenCache {
         self.len
     }
 
+    // The table of these words, for a call with this count. Refuses 1, then 2.
+    #[tactic(auto, unfolding(crate::specs::Calls::unfit))]
+    fn table(self, words: &[u64]) -> Result<Table<'_>, Refusal>
+        ensures verdict { barred result ≡ unfit self.len (shaped words.now) }
+        ensures kept { IfOk result (λ table. table.words.now ≡ words.now) }
+        ensures few { OnOk result (self.len ≤ most_slots) }
+    {
+        if self.len > Self::MAX_SLOTS {
+            return Err(Refusal::CountTooLarge);
+        }
+        Table::new(words)
+    }
+
     // How many slots the words are. Refuses 2.
-    #[tactic(auto, unfolding(crate::specs::Calls::capacity, crate::specs::Table::slots))]
+    #[tactic(auto, unfolding(crate::specs::Calls::capacity))]
     pub fn capacity(words: &[u64]) -> Result<usize, Refusal>
         ensures { tells_size result ≡ capacity_of words.now }
     {
-        if !size::shaped(words) {
-            return Err(Refusal::WrongShape);
-        }
-        Ok(words.len() / Self::WIDTH)
+        Ok(Table::new(words)?.slots())
     }
 
     // How many slots take n entries and a new one, and are no fewer than asked. Refuses 1.
@@ -116,33 +131,34 @@ impl ShortPretokenCache {
     pub fn clear(&mut self, words: &mut [u64]) -> Result<(), Refusal>
         ensures { Does (cleared self.old.len words.old) result self.new.len words.new }
     {
-        size::unfit(self.len, words)?;
+        self.table(words)?;
         words.fill(0);
         *self = Self::new();
         Ok(())
     }
 
     // The same, for words of exactly `cap` slots.
-    #[tactic(auto, unfolding(crate::specs::Calls::reset, crate::specs::Calls::unfit, crate::specs::Table::slots))]
+    #[tactic(auto, unfolding(crate::specs::Calls::reset, crate::specs::Calls::unfit, crate::specs::Calls::clear))]
     pub fn reset_to_capacity(&mut self, words: &mut [u64], cap: usize) -> Result<(), Refusal>
         ensures { Does (reset self.old.len words.old cap) result self.new.len words.new }
     {
-        size::unfit(self.len, words)?;
-        if words.len() / Self::WIDTH != cap {
+        if self.table(words)?.slots() != cap {
             return Err(Refusal::WrongShape);
         }
-        words.fill(0);
-        self.len = 0;
-        Ok(())
+        self.clear(words)
     }
 
     // Refuses 1, 2, 7 and 10.
-    #[tactic(auto, unfolding(crate::specs::Calls::get))]
+    #[tactic(auto, unfolding(crate::specs::Calls::get, crate::specs::Calls::gotten))]
     pub fn get_or_slot(self, words: &[u64], name: Name) -> Result<Got, Refusal>
         ensures { told result ≡ get self.len words.now name }
     {
-        size::barred(self.len, words, name)?;
-        walk::got(words, name)
+        let table = self.table(words)?;
+        match table.seek(Keyed::new(name)?) {
+            Stop::Hit(s) => Ok(Got::Found(table.slot(s).value)),
+            Stop::Empty(s) => Ok(Got::Missing(s)),
+            Stop::Full => Err(Refusal::NoEmptySlot),
+        }
     }
 
     // A new name goes into the first empty slot of its walk. Refuses 1, 2 and 7 to 10.
@@ -150,7 +166,7 @@ impl ShortPretokenCache {
     pub fn insert(&mut self, words: &mut [u64], name: Name, value: Value) -> Result<(), Refusal>
         ensures { Does (inserted self.old.len words.old name value) result self.new.len words.new }
     {
-        change::place(self, words, None, name, value)
+        change::place(self, words, None, Slot { name, value })
     }
 
     // The same, where the slot is known from `get_or_slot`. Refuses 1, 2 and 7 to 11.
@@ -164,7 +180,7 @@ impl ShortPretokenCache {
     ) -> Result<(), Refusal>
         ensures { Does (inserted_at self.old.len words.old slot name value) result self.new.len words.new }
     {
-        change::place(self, words, Some(slot), name, value)
+        change::place(self, words, Some(slot), Slot { name, value })
     }
 
     // A stored name is overwritten, another inserted. Refuses 1, 2, 7, 9 and 10.
@@ -172,23 +188,22 @@ impl ShortPretokenCache {
     pub fn replace(&mut self, words: &mut [u64], name: Name, value: Value) -> Result<(), Refusal>
         ensures { Does (replaced self.old.len words.old name value) result self.new.len words.new }
     {
-        size::barred(self.len, words, name)?;
-        change::overwrite(self, words, name, value)
+        change::overwrite(self, words, Slot { name, value })
     }
 
     // The entries go into a lent table of twice the slots, and are counted. The old table stays. Refuses 1 and 2.
-    #[tactic(auto, unfolding(crate::specs::Calls::grow, crate::specs::Calls::unfit))]
+    #[tactic(auto, using(crate::proofs::Grows::fits_is, crate::proofs::Sizes::shaped_as), unfolding(crate::specs::Calls::grow, crate::specs::Calls::unfit))]
     pub fn grow(&mut self, words: &[u64], into: &mut [u64]) -> Result<(), Refusal>
         ensures { Does (grown self.old.len words.now into.old) result self.new.len into.new }
     {
-        if self.len > Self::MAX_SLOTS {
-            return Err(Refusal::CountTooLarge);
-        }
-        if !size::fits(words, into) {
+        let table = self.table(words)?;
+        if Table::new(into)?.slots() != 2 * table.slots() {
             return Err(Refusal::WrongShape);
         }
         into.fill(0);
-        self.len = change::carry(words, into);
+        *self = Self {
+            len: change::carry(table, into),
+        };
         Ok(())
     }
 
@@ -197,16 +212,14 @@ impl ShortPretokenCache {
     pub fn probe_view(self, words: &[u64]) -> Result<ProbeView, Refusal>
         ensures { tells_view result ≡ view self.len words.now }
     {
-        size::unfit(self.len, words)?;
-        Ok(ProbeView {
-            pair_mask: words.len() / Self::WIDTH - 2,
-        })
+        let pair_mask = self.table(words)?.slots() - 2;
+        Ok(ProbeView { pair_mask })
     }
 }
 
 impl ProbeView {
     // The home pair only: nothing is shown on a miss. Refuses 2 and 7.
-    #[tactic(auto, unfolding(crate::specs::Calls::probe, crate::specs::Calls::zero_key))]
+    #[tactic(auto, using(crate::proofs::Shapes::view_shape), unfolding(crate::specs::Calls::probe, crate::specs::Calls::zero_key))]
     pub fn probe_pair(self, words: &[u64], name: Name) -> Result<Option<Value>, Refusal>
         ensures { tells_probe result ≡ probe self.pair_mask words.now name }
     {
@@ -214,9 +227,7 @@ impl ProbeView {
         if !size::viewed(mask, words) {
             return Err(Refusal::WrongShape);
         }
-        if slot::keyless(name) {
-            return Err(Refusal::KeyZero);
-        }
-        Ok(walk::probed(words, mask, name))
+        let key = Keyed::new(name)?;
+        Ok(Table { words }.probed(mask, key))
     }
 }

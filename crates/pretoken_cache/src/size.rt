@@ -1,12 +1,15 @@
-// The shapes of tables, the refusals that come first, the load rule and the capacity rule.
-ghost use Rattle.std.specs.Prelude.{◌≡◌, ◌≤◌};
-ghost use Rattle.pretoken_cache.specs.Limits.{most_slots, most_asked};
-ghost use Rattle.pretoken_cache.specs.Table.{proper as is_proper, shaped as is_shaped, laden as is_laden};
+// Tables: their shape, the load rule and the capacity rule.
+ghost use Rattle.std.specs.Prelude.{◌≡◌, true, cond, ◌<◌, ◌≤◌, IfOk};
+ghost use Rattle.token.specs.Refusals.{fine, refused};
+ghost use Rattle.pretoken_cache.specs.Limits.{least_slots, most_slots, most_asked};
+ghost use Rattle.pretoken_cache.specs.Slot.{name_at, value_at};
+ghost use Rattle.pretoken_cache.specs.Table.{proper as is_proper, slots, shaped as is_shaped, laden as is_laden};
 ghost use Rattle.pretoken_cache.specs.Capacity.{required as required_of};
-ghost use Rattle.pretoken_cache.specs.Calls.{unfit as is_unfit, zero_key, first_of, fits as is_fit, viewed as is_viewed};
-ghost use Rattle.pretoken_cache.specs.Told.{barred as barred_by};
+ghost use Rattle.pretoken_cache.specs.Calls.{viewed as is_viewed};
+ghost use Rattle.pretoken_cache.specs.Told.{barred};
 
-use crate::{Name, ShortPretokenCache, slot};
+use crate::ShortPretokenCache;
+use crate::slot::Slot;
 use token::Refusal;
 
 // A power of two from the least to the most.
@@ -29,40 +32,6 @@ pub(crate) fn shaped(words: &[u64]) -> bool
     words.len() == ShortPretokenCache::WIDTH * n && proper(n)
 }
 
-// 1, then 2.
-#[tactic(auto, unfolding(crate::specs::Calls::unfit))]
-pub(crate) fn unfit(count: usize, words: &[u64]) -> Result<(), Refusal>
-    ensures { barred_by result ≡ is_unfit count (is_shaped words.now) }
-{
-    if count > ShortPretokenCache::MAX_SLOTS {
-        return Err(Refusal::CountTooLarge);
-    }
-    if !shaped(words) {
-        return Err(Refusal::WrongShape);
-    }
-    Ok(())
-}
-
-// 1, then 2, then 7.
-#[tactic(auto, unfolding(crate::specs::Calls::zero_key))]
-pub(crate) fn barred(count: usize, words: &[u64], name: Name) -> Result<(), Refusal>
-    ensures { barred_by result ≡ first_of (is_unfit count (is_shaped words.now)) (zero_key name) }
-{
-    unfit(count, words)?;
-    if slot::keyless(name) {
-        return Err(Refusal::KeyZero);
-    }
-    Ok(())
-}
-
-// A lent table of exactly twice the slots.
-#[tactic(auto, unfolding(crate::specs::Calls::fits))]
-pub(crate) fn fits(words: &[u64], into: &[u64]) -> bool
-    ensures { result ≡ is_fit words.now into.now }
-{
-    shaped(words) && shaped(into) && into.len() == 2 * words.len()
-}
-
 // Is the mask that of these words? It needs no division.
 #[tactic(auto, using(crate::proofs::Shapes::viewed_is))]
 pub(crate) fn viewed(mask: usize, words: &[u64]) -> bool
@@ -71,6 +40,43 @@ pub(crate) fn viewed(mask: usize, words: &[u64]) -> bool
     mask <= ShortPretokenCache::MAX_SLOTS
         && words.len() == ShortPretokenCache::WIDTH * (mask + 2)
         && proper(mask + 2)
+}
+
+// Words of the right shape.
+#[derive(Clone, Copy)]
+pub(crate) struct Table<'a> {
+    pub(crate) words: &'a [u64],
+    ghost has_shape: { is_shaped words.now ≡ true },
+}
+
+impl<'a> Table<'a> {
+    // Refuses 2.
+    pub(crate) fn new(words: &'a [u64]) -> Result<Self, Refusal>
+        ensures verdict { barred result ≡ cond (is_shaped words.now) fine (refused 2 0) }
+        ensures kept { IfOk result (λ table. table.words.now ≡ words.now) }
+    {
+        if !shaped(words) {
+            return Err(Refusal::WrongShape);
+        }
+        Ok(Table { words })
+    }
+
+    #[tactic(auto, using(crate::proofs::Sizes::shape), unfolding(crate::specs::Table::slots))]
+    pub(crate) fn slots(self) -> usize
+        ensures count { result ≡ slots self.entry.words.now }
+        ensures least { least_slots ≤ result }
+        ensures most { result ≤ most_slots }
+    {
+        self.words.len() / ShortPretokenCache::WIDTH
+    }
+
+    pub(crate) fn slot(self, s: usize) -> Slot
+        requires { s < slots self.words.now }
+        ensures name { result.name ≡ name_at self.entry.words.now s }
+        ensures value { result.value ≡ value_at self.entry.words.now s }
+    {
+        Slot::at(self.words, s)
+    }
 }
 
 // One entry more is too many for n slots.

@@ -1,68 +1,96 @@
 // What a name is, and the words of a slot: of the code only this file knows a slot's layout.
-ghost use Rattle.std.specs.Prelude.{◌≡◌, ◌+◌, ◌*◌, ◌≤◌, length};
-ghost use Rattle.pretoken_cache.specs.Slot.{width, same as is_same, keyless as is_keyless, name_at, value_at, put as stored};
+ghost use Rattle.std.specs.Prelude.{◌≡◌, false, ◌&&◌, ◌<◌, IfOk};
+ghost use Rattle.pretoken_cache.specs.Slot.{same, keyless, name_at, value_at, put as stored};
+ghost use Rattle.pretoken_cache.specs.Table.{slots};
+ghost use Rattle.pretoken_cache.specs.Calls.{zero_key};
+ghost use Rattle.pretoken_cache.specs.Told.{barred};
 
 use crate::{Name, ShortPretokenCache, Value};
+use token::Refusal;
 
-// Is the key zero?
-#[tactic(auto, unfolding(crate::specs::Slot::keyless))]
-pub(crate) fn keyless(name: Name) -> bool
-    ensures { result ≡ is_keyless name }
-{
-    name.high == ShortPretokenCache::EMPTY_KEY && name.low == ShortPretokenCache::EMPTY_KEY
-}
-
-#[tactic(auto, unfolding(crate::specs::Slot::name_at))]
-pub(crate) fn name_at(words: &[u64], s: usize) -> Name
-    requires { width * s + width ≤ length words.now }
-    ensures { result ≡ name_at words.now s }
-{
-    let at = ShortPretokenCache::WIDTH * s;
-    Name {
-        high: words[at],
-        low: words[at + 1],
-        h: words[at + 4],
+impl Name {
+    // Is the key zero?
+    #[tactic(auto, unfolding(crate::specs::Slot::keyless))]
+    pub(crate) fn is_keyless(self) -> bool
+        ensures { result ≡ keyless self }
+    {
+        self.high == ShortPretokenCache::EMPTY_KEY && self.low == ShortPretokenCache::EMPTY_KEY
     }
 }
 
-#[tactic(auto, unfolding(crate::specs::Slot::value_at))]
-pub(crate) fn value_at(words: &[u64], s: usize) -> Value
-    requires { width * s + width ≤ length words.now }
-    ensures { result ≡ value_at words.now s }
-{
-    let at = ShortPretokenCache::WIDTH * s;
-    Value {
-        val: words[at + 2],
-        ext: words[at + 3],
+// A name whose key is not zero.
+#[derive(Clone, Copy)]
+pub(crate) struct Keyed {
+    pub(crate) name: Name,
+    ghost has_key: { keyless name ≡ false },
+}
+
+impl Keyed {
+    // Refuses 7.
+    #[tactic(auto, unfolding(crate::specs::Calls::zero_key))]
+    pub(crate) fn new(name: Name) -> Result<Self, Refusal>
+        ensures verdict { barred result ≡ zero_key name }
+        ensures kept { IfOk result (λ key. key.name ≡ name) }
+    {
+        if name.is_keyless() {
+            return Err(Refusal::KeyZero);
+        }
+        Ok(Keyed { name })
     }
 }
 
-#[tactic(auto, unfolding(crate::specs::Slot::put, crate::specs::Slot::row))]
-pub(crate) fn put(words: &mut [u64], s: usize, name: Name, value: Value)
-    requires { width * s + width ≤ length words.old }
-    ensures { words.new ≡ stored words.old s name value }
-{
-    let at = ShortPretokenCache::WIDTH * s;
-    words[at] = name.high;
-    words[at + 1] = name.low;
-    words[at + 2] = value.val;
-    words[at + 3] = value.ext;
-    words[at + 4] = name.h;
+// What a slot holds. It is empty if its name has no key.
+#[derive(Clone, Copy)]
+pub(crate) struct Slot {
+    pub(crate) name: Name,
+    pub(crate) value: Value,
 }
 
-// Is slot s of this name?
-#[tactic(auto, unfolding(crate::specs::Slot::same))]
-pub(crate) fn mine(words: &[u64], s: usize, name: Name) -> bool
-    requires { width * s + width ≤ length words.now }
-    ensures { result ≡ is_same name (name_at words.now s) }
-{
-    name == name_at(words, s)
-}
+impl Slot {
+    #[tactic(auto, unfolding(crate::specs::Slot::name_at, crate::specs::Slot::value_at, crate::specs::Table::slots))]
+    pub(crate) fn at(words: &[u64], s: usize) -> Self
+        requires { s < slots words.now }
+        ensures name { result.name ≡ name_at words.now s }
+        ensures value { result.value ≡ value_at words.now s }
+    {
+        let at = ShortPretokenCache::WIDTH * s;
+        Slot {
+            name: Name {
+                high: words[at],
+                low: words[at + 1],
+                h: words[at + 4],
+            },
+            value: Value {
+                val: words[at + 2],
+                ext: words[at + 3],
+            },
+        }
+    }
 
-// Is slot s empty?
-pub(crate) fn vacant(words: &[u64], s: usize) -> bool
-    requires { width * s + width ≤ length words.now }
-    ensures { result ≡ is_keyless (name_at words.now s) }
-{
-    keyless(name_at(words, s))
+    pub(crate) fn is_empty(self) -> bool
+        ensures { result ≡ keyless self.name }
+    {
+        self.name.is_keyless()
+    }
+
+    // Is it of this name, where that is sought?
+    #[tactic(auto, unfolding(crate::specs::Slot::same))]
+    pub(crate) fn is_of<const SOUGHT: bool>(self, key: Keyed) -> bool
+        ensures { result ≡ (SOUGHT && same key.name self.name) }
+    {
+        SOUGHT && key.name == self.name
+    }
+
+    #[tactic(auto, unfolding(crate::specs::Slot::put, crate::specs::Slot::row, crate::specs::Table::slots))]
+    pub(crate) fn put(self, words: &mut [u64], s: usize)
+        requires { s < slots words.old }
+        ensures { words.new ≡ stored words.old s self.name self.value }
+    {
+        let at = ShortPretokenCache::WIDTH * s;
+        words[at] = self.name.high;
+        words[at + 1] = self.name.low;
+        words[at + 2] = self.value.val;
+        words[at + 3] = self.value.ext;
+        words[at + 4] = self.name.h;
+    }
 }

@@ -1,12 +1,12 @@
-// Walks over pairs of slots, and what the readers make of where they stop.
-ghost use Rattle.std.specs.Prelude.{◌≡◌, false, true, Ok};
-ghost use Rattle.pretoken_cache.specs.Slot.{keyless};
-ghost use Rattle.pretoken_cache.specs.Table.{shaped, seek as sought, near, first_empty};
-ghost use Rattle.pretoken_cache.specs.Calls.{gotten, glimpsed, viewed};
-ghost use Rattle.pretoken_cache.specs.Told.{walked, told, tells_probe};
+// Walks over pairs of slots.
+ghost use Rattle.std.specs.Prelude.{◌≡◌, cond, Ok};
+ghost use Rattle.pretoken_cache.specs.Table.{slots, pair_mask, seek as sought, near, first_empty};
+ghost use Rattle.pretoken_cache.specs.Calls.{glimpsed};
+ghost use Rattle.pretoken_cache.specs.Told.{walked, Inside, tells_probe};
 
-use crate::{Got, Name, ShortPretokenCache, Value, slot};
-use token::Refusal;
+use crate::Value;
+use crate::size::Table;
+use crate::slot::Keyed;
 
 // Where a walk stopped: at a match, at an empty slot, or nowhere.
 #[derive(Clone, Copy, PartialEq, Eq, Debug)]
@@ -16,87 +16,69 @@ pub(crate) enum Stop {
     Full,
 }
 
-// The walk of a name whose key is not zero.
-pub(crate) fn seek(words: &[u64], name: Name) -> Stop
-    requires { (shaped words.now ≡ true) × (keyless name ≡ false) }
-    ensures { walked result ≡ sought words.now name }
-{
-    let n = words.len() / ShortPretokenCache::WIDTH;
-    let mut i = (name.h as usize) & (n - 2);
-    let mut left = n / 2;
-    let stop = loop {
-        if left == 0 {
-            break Stop::Full;
-        }
-        let j = i + 1;
-        if slot::mine(words, i, name) {
-            break Stop::Hit(i);
-        }
-        if slot::mine(words, j, name) {
-            break Stop::Hit(j);
-        }
-        if slot::vacant(words, i) {
-            break Stop::Empty(i);
-        }
-        if slot::vacant(words, j) {
-            break Stop::Empty(j);
-        }
-        i = (i + 2) & (n - 1);
-        left -= 1;
-    };
-    stop
-}
-
-// The first empty slot of the walk from h, with no look for matches.
-pub(crate) fn first_empty(words: &[u64], h: u64) -> Stop
-    requires { shaped words.now ≡ true }
-    ensures { walked result ≡ first_empty words.now h }
-{
-    let n = words.len() / ShortPretokenCache::WIDTH;
-    let mut i = (h as usize) & (n - 2);
-    let mut pairs = n / 2;
-    let stop = loop {
-        if pairs == 0 {
-            break Stop::Full;
-        }
-        let j = i + 1;
-        if slot::vacant(words, i) {
-            break Stop::Empty(i);
-        }
-        if slot::vacant(words, j) {
-            break Stop::Empty(j);
-        }
-        i = (i + 2) & (n - 1);
-        pairs -= 1;
-    };
-    stop
-}
-
-// What is stored under the name, or the first empty slot.
-#[tactic(auto, unfolding(crate::specs::Calls::gotten))]
-pub(crate) fn got(words: &[u64], name: Name) -> Result<Got, Refusal>
-    requires { (shaped words.now ≡ true) × (keyless name ≡ false) }
-    ensures { told result ≡ gotten words.now (sought words.now name) }
-{
-    match seek(words, name) {
-        Stop::Hit(s) => Ok(Got::Found(slot::value_at(words, s))),
-        Stop::Empty(s) => Ok(Got::Missing(s)),
-        Stop::Full => Err(Refusal::NoEmptySlot),
+impl Table<'_> {
+    // The walk of a name, which stops at its match if it is SOUGHT, and else at the first empty slot alone.
+    #[tactic(auto, using(crate::proofs::Turns::turn_fits, crate::proofs::Turns::turn_over, crate::proofs::Turns::turn_next))]
+    fn walk<const SOUGHT: bool>(self, key: Keyed) -> Stop
+        ensures stops { walked result ≡ cond SOUGHT (sought self.entry.words.now key.name) (first_empty self.entry.words.now key.name.h) }
+        ensures inside { Inside result (slots self.entry.words.now) }
+    {
+        let n = self.slots();
+        let mut i = (key.name.h as usize) & (n - 2);
+        let mut left = n / 2;
+        let stop = loop {
+            if left == 0 {
+                break Stop::Full;
+            }
+            let first = self.slot(i);
+            if first.is_of::<SOUGHT>(key) {
+                break Stop::Hit(i);
+            }
+            let second = self.slot(i + 1);
+            if second.is_of::<SOUGHT>(key) {
+                break Stop::Hit(i + 1);
+            }
+            if first.is_empty() {
+                break Stop::Empty(i);
+            }
+            if second.is_empty() {
+                break Stop::Empty(i + 1);
+            }
+            i = (i + 2) & (n - 1);
+            left -= 1;
+        };
+        stop
     }
-}
 
-// The home pair.
-pub(crate) fn probed(words: &[u64], mask: usize, name: Name) -> Option<Value>
-    requires { (viewed mask words.now ≡ true) × (keyless name ≡ false) }
-    ensures { tells_probe (Ok result) ≡ glimpsed words.now (near words.now name) }
-{
-    let i = (name.h as usize) & mask;
-    let j = i + 1;
-    if slot::mine(words, i, name) {
-        return Some(slot::value_at(words, i));
+    pub(crate) fn seek(self, key: Keyed) -> Stop
+        ensures stops { walked result ≡ sought self.entry.words.now key.name }
+        ensures inside { Inside result (slots self.entry.words.now) }
+    {
+        self.walk::<true>(key)
     }
-    if slot::mine(words, j, name) {
-        return Some(slot::value_at(words, j));
+
+    // With no look for matches.
+    pub(crate) fn first_empty(self, key: Keyed) -> Stop
+        ensures stops { walked result ≡ first_empty self.entry.words.now key.name.h }
+        ensures inside { Inside result (slots self.entry.words.now) }
+    {
+        self.walk::<false>(key)
     }
-    None
+
+    // The home pair, under the table's mask.
+    pub(crate) fn probed(self, mask: usize, key: Keyed) -> Option<Value>
+        requires { mask ≡ pair_mask (slots self.words.now) }
+        ensures { tells_probe (Ok result) ≡ glimpsed self.entry.words.now (near self.entry.words.now key.name) }
+    {
+        let i = (key.name.h as usize) & mask;
+        let first = self.slot(i);
+        if first.is_of::<true>(key) {
+            return Some(first.value);
+        }
+        let second = self.slot(i + 1);
+        if second.is_of::<true>(key) {
+            return Some(second.value);
+        }
+        None
+    }
 }

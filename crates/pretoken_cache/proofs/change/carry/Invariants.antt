@@ -9,6 +9,6 @@ use Rattle.pretoken_cache.proofs.change.carry.Given as goal
 abbrev pub invariant-loop-s : goal.invariant-loop-s
 invariant-loop-s l = record {
   fit : shaped l.into ≡ true;
-  moves : l.into ≡ carried l.words l.s l.initial.into;
-  counts : l.count ≡ taken (slot_at l.words) l.s;
+  moves : l.into ≡ carried l.old.words.now l.s l.initial.into;
+  counts : l.count ≡ taken (slot_at l.old.words.now) l.s;
 }
