@@ -10,6 +10,7 @@ pub mod Entries
 pub mod Sims
 pub mod Asks
 pub mod Map
+pub mod Changes
 pub mod Doubling
 pub mod Turns
 pub mod Bars
