@@ -1,4 +1,4 @@
--- Names and slots: when two names are one, what a walk sees, and what a slot holds after a store. Of the proofs only this file and Reading.antt know a
+-- Names and slots: when two names are one, what a walk sees, and what a slot holds after a store. Of the lemmas only these know a
 -- slot's layout. Assumes nothing.
 use mathlib.Core.Path.{◌≡◌, refl, sym, ◌∙◌}
 use mathlib.Core.Logic.{◌≢◌, ◌⊎◌, inl, inr}

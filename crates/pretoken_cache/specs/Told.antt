@@ -1,7 +1,9 @@
 -- The code's answers as those of the paper, with its numbers, and what a changing call promises. Assumes nothing.
-use Rattle.std.specs.Prelude.{◌≡◌, ◌<◌, Bool, true, false, List, ℕ, eqb, Option, Some, None, Result, Ok, Err}
+use Rattle.std.specs.Prelude.{◌≡◌, ◌<◌, Bool, true, false, cond, List, ℕ, eqb, Option, Some, None, Result, Ok, Err}
 use Rattle.token.specs.declared.Refusal.{Refusal}
 use Rattle.token.specs.Refusals.{number, place, Verdict, fine, verdict}
+use Rattle.pretoken_cache.specs.declared.slot.Slot as code
+use Rattle.pretoken_cache.specs.Slot.{keyless, Slot, free, held}
 use Rattle.pretoken_cache.specs.Walk.{Walk, hit, empty, full}
 use Rattle.pretoken_cache.specs.Calls.{Answer, found, missing, done, sized, views, probed, refuses, Outcome}
 use Rattle.pretoken_cache.specs.declared.Value.{Value}
@@ -64,6 +66,10 @@ Inside stop.Full n = Unit {0}
 abbrev pub barred : {A : Type 0} → Result A Refusal → Verdict
 barred (Ok r) = fine
 barred (Err f) = verdict f
+
+-- a slot as it was read
+abbrev pub held_in : code.Slot → Slot
+held_in x = cond (keyless x.name) free (held x.name x.value)
 
 -- whether a slot is the proposed one, where one is proposed
 abbrev pub right : Option ℕ → ℕ → Bool

@@ -1,10 +1,10 @@
-// What the changing calls do.
-ghost use Rattle.std.specs.Prelude.{◌≡◌, true, ◌<◌, ◌≤◌};
+// What the changing calls do. The count and the words that are lent come apart here too: the public calls' signatures stay.
+ghost use Rattle.std.specs.Prelude.{◌≡◌, true, ◌≤◌};
 ghost use Rattle.pretoken_cache.specs.Limits.{most_slots};
 ghost use Rattle.pretoken_cache.specs.Slot.{slot_at};
 ghost use Rattle.pretoken_cache.specs.Table.{shaped, slots, seek as sought, weight, taken};
 ghost use Rattle.pretoken_cache.specs.Calls.{unfit, zero_key, first_of, guarded, placed, replaced, moved, carried};
-ghost use Rattle.pretoken_cache.specs.Told.{walked, Inside, right, Does};
+ghost use Rattle.pretoken_cache.specs.Told.{walked, Inside, right, held_in, Does};
 
 use crate::size::Table;
 use crate::slot::{Keyed, Slot};
@@ -76,15 +76,13 @@ pub(crate) fn overwrite(
     settle(cache, words, stop, None, entry)
 }
 
-// Old slot s goes into the larger table, and counts, if it is taken.
-#[tactic(auto, unfolding(crate::specs::Calls::moved, crate::specs::Calls::seated, crate::specs::Slot::slot_at, crate::specs::Table::weight))]
-fn move_slot(old: Table, s: usize, into: &mut [u64]) -> usize
-    requires within { s < slots old.words.now }
-    requires fit { shaped into.old ≡ true }
-    ensures moves { into.new ≡ moved (slot_at old.entry.words.now s) into.old }
-    ensures counts { result ≡ weight (slot_at old.entry.words.now s) }
+// An old slot goes into the larger table, and counts, if it is taken.
+#[tactic(auto, unfolding(crate::specs::Calls::moved, crate::specs::Calls::seated, crate::specs::Table::weight))]
+fn move_slot(slot: Slot, into: &mut [u64]) -> usize
+    requires { shaped into.old ≡ true }
+    ensures moves { into.new ≡ moved (held_in slot) into.old }
+    ensures counts { result ≡ weight (held_in slot) }
 {
-    let slot = old.slot(s);
     if slot.is_empty() {
         return 0;
     }
@@ -96,7 +94,7 @@ fn move_slot(old: Table, s: usize, into: &mut [u64]) -> usize
 }
 
 // The old entries in slot order, into a table that is empty.
-#[tactic(auto, using(crate::proofs::Grows::shaped_moved, crate::proofs::Grows::carried_next, crate::proofs::Grows::taken_next, crate::proofs::Table::taken_le, crate::proofs::Names::weight_le), unfolding(crate::specs::Calls::carried, crate::specs::Table::taken))]
+#[tactic(auto, using(crate::proofs::Grows::shaped_moved, crate::proofs::Grows::carried_next, crate::proofs::Grows::taken_next, crate::proofs::Table::taken_le, crate::proofs::Names::weight_le), unfolding(crate::specs::Calls::carried, crate::specs::Table::taken, crate::specs::Slot::slot_at))]
 pub(crate) fn carry(old: Table, into: &mut [u64]) -> usize
     requires { shaped into.old ≡ true }
     ensures moves { into.new ≡ carried old.entry.words.now (slots old.entry.words.now) into.old }
@@ -104,7 +102,7 @@ pub(crate) fn carry(old: Table, into: &mut [u64]) -> usize
 {
     let mut count = 0;
     for s in 0..old.slots() {
-        count += move_slot(old, s, into);
+        count += move_slot(old.slot(s), into);
     }
     count
 }

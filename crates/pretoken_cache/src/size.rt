@@ -1,15 +1,13 @@
 // Tables: their shape, the load rule and the capacity rule.
-ghost use Rattle.std.specs.Prelude.{◌≡◌, true, cond, ◌<◌, ◌≤◌, IfOk};
+ghost use Rattle.std.specs.Prelude.{◌≡◌, true, cond, ◌≤◌, IfOk};
 ghost use Rattle.token.specs.Refusals.{fine, refused};
 ghost use Rattle.pretoken_cache.specs.Limits.{least_slots, most_slots, most_asked};
-ghost use Rattle.pretoken_cache.specs.Slot.{name_at, value_at};
 ghost use Rattle.pretoken_cache.specs.Table.{proper as is_proper, slots, shaped as is_shaped, laden as is_laden};
 ghost use Rattle.pretoken_cache.specs.Capacity.{required as required_of};
 ghost use Rattle.pretoken_cache.specs.Calls.{viewed as is_viewed};
 ghost use Rattle.pretoken_cache.specs.Told.{barred};
 
 use crate::ShortPretokenCache;
-use crate::slot::Slot;
 use token::Refusal;
 
 // A power of two from the least to the most.
@@ -68,14 +66,6 @@ impl<'a> Table<'a> {
         ensures most { result ≤ most_slots }
     {
         self.words.len() / ShortPretokenCache::WIDTH
-    }
-
-    pub(crate) fn slot(self, s: usize) -> Slot
-        requires { s < slots self.words.now }
-        ensures name { result.name ≡ name_at self.entry.words.now s }
-        ensures value { result.value ≡ value_at self.entry.words.now s }
-    {
-        Slot::at(self.words, s)
     }
 }
 

@@ -5,6 +5,7 @@ ghost use Rattle.pretoken_cache.specs.Table.{slots};
 ghost use Rattle.pretoken_cache.specs.Calls.{zero_key};
 ghost use Rattle.pretoken_cache.specs.Told.{barred};
 
+use crate::size::Table;
 use crate::{Name, ShortPretokenCache, Value};
 use token::Refusal;
 
@@ -46,13 +47,15 @@ pub(crate) struct Slot {
     pub(crate) value: Value,
 }
 
-impl Slot {
+impl Table<'_> {
+    // Reached by its place in the row: `as_chunks` is no plainer, since stores and definitions speak of the row, and a view's test would divide.
     #[tactic(auto, unfolding(crate::specs::Slot::name_at, crate::specs::Slot::value_at, crate::specs::Table::slots))]
-    pub(crate) fn at(words: &[u64], s: usize) -> Self
-        requires { s < slots words.now }
-        ensures name { result.name ≡ name_at words.now s }
-        ensures value { result.value ≡ value_at words.now s }
+    pub(crate) fn slot(self, s: usize) -> Slot
+        requires { s < slots self.words.now }
+        ensures name { result.name ≡ name_at self.entry.words.now s }
+        ensures value { result.value ≡ value_at self.entry.words.now s }
     {
+        let words = self.words;
         let at = ShortPretokenCache::WIDTH * s;
         Slot {
             name: Name {
@@ -66,7 +69,9 @@ impl Slot {
             },
         }
     }
+}
 
+impl Slot {
     pub(crate) fn is_empty(self) -> bool
         ensures { result ≡ keyless self.name }
     {

@@ -66,6 +66,7 @@ impl Table<'_> {
     }
 
     // The home pair, under the table's mask.
+    #[tactic(auto, using(crate::proofs::Gets::home_fits, crate::proofs::Sizes::slots_most))]
     pub(crate) fn probed(self, mask: usize, key: Keyed) -> Option<Value>
         requires { mask ≡ pair_mask (slots self.words.now) }
         ensures { tells_probe (Ok result) ≡ glimpsed self.entry.words.now (near self.entry.words.now key.name) }

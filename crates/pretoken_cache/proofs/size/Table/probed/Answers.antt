@@ -1,18 +1,7 @@
 -- By the two slots of the home pair. Assumes nothing.
 use mathlib.Core.Path.{sym, ◌∙◌}
-use native.Mathlib.Omega.{arith}
-use Rattle.pretoken_cache.proofs.Gets.{home_fits, probe_first, probe_second, probe_none}
-use Rattle.pretoken_cache.proofs.Sizes.{shape}
+use Rattle.pretoken_cache.proofs.Gets.{probe_first, probe_second, probe_none}
 use Rattle.pretoken_cache.proofs.size.Table.probed.Goals as goal
-
-pub slot-first-requires : goal.slot-first-requires
-slot-first-requires c = omega (arith, home_fits _ c.args.self.has_shape c.args.key.name c.requires)
-
-pub overflow_add-i : goal.overflow_add-i
-overflow_add-i c = omega (arith, home_fits _ c.args.self.has_shape c.args.key.name c.requires, (shape _ c.args.self.has_shape).1.most)
-
-pub slot-second-requires : goal.slot-second-requires
-slot-second-requires c = home_fits _ c.args.self.has_shape c.args.key.name c.requires
 
 pub returns-then-is_of : goal.returns-then-is_of
 returns-then-is_of c = probe_first _ c.args.self.has_shape _ c.requires c.slot-first.ensures.name c.args.key.has_key (sym c.is_of.ensures ∙ c.if-is_of.true) c.slot-first.ensures.value
