@@ -13,8 +13,6 @@ use Rattle.pairs.specs.Table.{Sized, shaped, filled}
 use Rattle.pairs.specs.Calls.{told, refused_by, table_of}
 use Rattle.pairs.specs.declared.PairRankTable.{PairRankTable}
 use Rattle.pairs.specs.declared.Rule.{Rule}
-use Rattle.pairs.specs.declared.Stop.{Stop}
-use Rattle.pairs.specs.declared.Stop.TheVariants as stop
 
 -- a word of 64 bits can be shifted so far
 abbrev pub Shifts : ℕ → Type 0
@@ -35,11 +33,6 @@ pub record Fitted (s : Bor (List ℕ)) (t : PairRankTable) : Type 0 where
 abbrev pub Checks : Bor (List ℕ) → Result PairRankTable Refusal → Type 0
 Checks s (Ok t) = Fitted s t
 Checks s (Err f) = (shaped (length s.now) ≡ false) × (f ≡ WrongShape)
-
-abbrev pub walked : Stop → Walk
-walked (stop.Hit i) = hit i
-walked (stop.Empty i) = empty i
-walked stop.Full = full
 
 -- what is said of rule number r, whose walk stopped there
 abbrev pub said_by : Walk → ℕ → Verdict

@@ -1,12 +1,8 @@
 -- The walk of a key over the slots, wrapping. Assumes nothing.
 use Rattle.std.specs.Prelude.{cond, List, ℕ, zero, suc, ◌+◌, ◌%◌, eqb, ltb, length, get_or}
+pub use Rattle.token.specs.Walks.{Walk, hit, empty, full}
 use Rattle.pairs.specs.Limits.{vacant, farthest}
 use Rattle.pairs.specs.Key.{key_in, shift, home}
-
--- where a walk stops
-pub data Walk : Type 0 where
-  hit empty : ℕ → Walk
-  full : Walk
 
 -- at most so many slots from i on: the key is tested before emptiness
 unfoldable pub walk : List ℕ → ℕ → ℕ → ℕ → Walk

@@ -4,6 +4,7 @@
 
 ghost use Rattle.std.specs.Prelude.{◌≡◌, ◌≤◌, length};
 ghost use Rattle.token.specs.Limits.{top};
+ghost use Rattle.token.specs.Walks.{walked};
 ghost use Rattle.pairs.specs.Limits.{most_rules};
 ghost use Rattle.pairs.specs.Key.{merged_in, key as key_of, packed, shift as shift_of, home as home_of};
 ghost use Rattle.pairs.specs.Walk.{walk, reach as reach_of};
@@ -11,9 +12,9 @@ ghost use Rattle.pairs.specs.Table.{Sized, shaped as is_shaped, enough as is_eno
 ghost use Rattle.pairs.specs.Calls.{ranking_of, says, Builds};
 ghost use Rattle.pairs.specs.Held.{held_rank, Held};
 ghost use Rattle.pairs.specs.Rank.{rank_of};
-ghost use Rattle.pairs.specs.Steps.{Fits, Shifts, walked, Fitted, Checks, OfIds, Inserts, Fillable, Stores, Fills};
+ghost use Rattle.pairs.specs.Steps.{Fits, Shifts, Fitted, Checks, OfIds, Inserts, Fillable, Stores, Fills};
 
-use token::{Refusal, TokenId};
+use token::{Refusal, Stop, TokenId};
 
 // The lent slots with their mask and shift, held as one thing.
 // No ghost field says that mask and shift are the slots': the fields stay public, and `rank` takes and refuses any others.
@@ -130,14 +131,6 @@ impl<'a> PairRankTable<'a> {
             left -= 1;
         }
     }
-}
-
-// Where a walk stopped: at the key's slot, at an empty slot, or nowhere.
-#[derive(Clone, Copy, PartialEq, Eq, Debug)]
-enum Stop {
-    Hit(usize),
-    Empty(usize),
-    Full,
 }
 
 // A pair of ids, and the id that it is merged to.

@@ -4,15 +4,14 @@ use Rattle.token.specs.declared.Refusal.{Refusal}
 use Rattle.token.specs.Refusals.{number, place, Verdict, fine, verdict}
 use Rattle.pretoken_cache.specs.declared.slot.Slot as code
 use Rattle.pretoken_cache.specs.Slot.{keyless, Slot, free, held}
-use Rattle.pretoken_cache.specs.Walk.{Walk, hit, empty, full}
 use Rattle.pretoken_cache.specs.Calls.{Answer, found, missing, done, sized, views, probed, refuses, Outcome}
 use Rattle.pretoken_cache.specs.declared.Value.{Value}
 use Rattle.pretoken_cache.specs.declared.ShortPretokenCache.{ShortPretokenCache}
 use Rattle.pretoken_cache.specs.declared.ProbeView.{ProbeView}
 use Rattle.pretoken_cache.specs.declared.Got.{Got}
 use Rattle.pretoken_cache.specs.declared.Got.TheVariants as got
-use Rattle.pretoken_cache.specs.declared.walk.Stop.{Stop}
-use Rattle.pretoken_cache.specs.declared.walk.Stop.TheVariants as stop
+use Rattle.token.specs.declared.Stop.{Stop}
+use Rattle.token.specs.declared.Stop.TheVariants as stop
 
 -- ---- what the public calls answer
 
@@ -51,11 +50,6 @@ pub record Does {A : Type 0} (o : Outcome) (r : Result A Refusal) (count : ℕ) 
   pub left : words ≡ o.words
 
 -- ---- what the inner functions answer
-
-abbrev pub walked : Stop → Walk
-walked (stop.Hit s) = hit s
-walked (stop.Empty s) = empty s
-walked stop.Full = full
 
 -- where it stopped is one of n slots
 abbrev pub Inside : Stop → ℕ → Type 0

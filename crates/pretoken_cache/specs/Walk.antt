@@ -1,14 +1,10 @@
 -- A walk over pairs of slots, a slot and the one after it. Assumes nothing.
 use Rattle.std.specs.Prelude.{List, [], ◌∷◌, ℕ, zero, suc, ◌+◌, ◌%◌}
+pub use Rattle.token.specs.Walks.{Walk, hit, empty, full}
 
 -- what a walk sees in a slot
 pub data Sight : Type 0 where
   vacant mine other : Sight
-
--- where it stops: at a match, at an empty slot, or nowhere
-pub data Walk : Type 0 where
-  hit empty : ℕ → Walk
-  full : Walk
 
 -- on the pair of slot i: first matches, second matches, first empty, second empty; else on, with `rest`
 abbrev pub pair : Sight → Sight → ℕ → Walk → Walk

@@ -1,16 +1,16 @@
 // What the changing calls do. The count and the words that are lent come apart here too: the public calls' signatures stay.
 ghost use Rattle.std.specs.Prelude.{◌≡◌, true, ◌≤◌};
+ghost use Rattle.token.specs.Walks.{walked};
 ghost use Rattle.pretoken_cache.specs.Limits.{most_slots};
 ghost use Rattle.pretoken_cache.specs.Slot.{slot_at};
 ghost use Rattle.pretoken_cache.specs.Table.{shaped, slots, seek as sought, weight, taken};
 ghost use Rattle.pretoken_cache.specs.Calls.{unfit, zero_key, first_of, guarded, placed, replaced, moved, carried};
-ghost use Rattle.pretoken_cache.specs.Told.{walked, Inside, right, held_in, Does};
+ghost use Rattle.pretoken_cache.specs.Told.{Inside, right, held_in, Does};
 
 use crate::size::Table;
 use crate::slot::{Keyed, Slot};
-use crate::walk::Stop;
 use crate::{ShortPretokenCache, size};
-use token::Refusal;
+use token::{Refusal, Stop};
 
 // A new name, where its walk stopped: at any empty slot, or at the proposed one.
 #[tactic(auto, unfolding(crate::specs::Calls::placed, crate::specs::Table::slots))]

@@ -10,8 +10,7 @@ ghost use Rattle.pretoken_cache.specs.Told.{told, tells_size, tells_view, tells_
 
 use size::Table;
 use slot::{Keyed, Slot};
-use token::Refusal;
-use walk::Stop;
+use token::{Refusal, Stop};
 
 mod change;
 mod size;

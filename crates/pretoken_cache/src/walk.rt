@@ -1,20 +1,14 @@
 // Walks over pairs of slots.
 ghost use Rattle.std.specs.Prelude.{◌≡◌, cond, Ok};
+ghost use Rattle.token.specs.Walks.{walked};
 ghost use Rattle.pretoken_cache.specs.Table.{slots, pair_mask, seek as sought, near, first_empty};
 ghost use Rattle.pretoken_cache.specs.Calls.{glimpsed};
-ghost use Rattle.pretoken_cache.specs.Told.{walked, Inside, tells_probe};
+ghost use Rattle.pretoken_cache.specs.Told.{Inside, tells_probe};
 
 use crate::Value;
 use crate::size::Table;
 use crate::slot::Keyed;
-
-// Where a walk stopped: at a match, at an empty slot, or nowhere.
-#[derive(Clone, Copy, PartialEq, Eq, Debug)]
-pub(crate) enum Stop {
-    Hit(usize),
-    Empty(usize),
-    Full,
-}
+use token::Stop;
 
 impl Table<'_> {
     // The walk of a name, which stops at its match if it is SOUGHT, and else at the first empty slot alone.

@@ -3,3 +3,4 @@ pub mod Ids
 pub mod Refusals
 pub mod Printed
 pub mod Sizes
+pub mod Walks

@@ -113,6 +113,14 @@ impl fmt::Display for Refusal {
 
 impl Error for Refusal {}
 
+// Where a walk over the slots of a table stopped: at what it sought, at an empty slot, or nowhere.
+#[derive(Clone, Copy, PartialEq, Eq, Debug)]
+pub enum Stop {
+    Hit(usize),
+    Empty(usize),
+    Full,
+}
+
 // The index of the first number that is too large for an id.
 pub fn first_too_large(row: &[u32]) -> Option<usize>
     ensures { result ≡ index_in row.now (first_too_large row.now) }
