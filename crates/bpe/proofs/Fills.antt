@@ -6,7 +6,6 @@ use native.Mathlib.Omega.{arith}
 use borrow.Rule.Slice.PartMut.{mid_of, put_mid, mid_len, Post-is}
 use lib.ListN.{length, take, replicate}
 use lib.Seq.{drop-length}
-use Rattle.bpe.specs.Calls.{zeroed}
 
 -- from a on
 pub fill_tail : (a v : ℕ) (l part : List ℕ) → a ≤ length l → part ≡ replicate (length (mid_of a (length l - a) l)) v → put_mid a (length l - a) l part ≡ take a l ++ replicate (length l - a) v
@@ -14,9 +13,3 @@ fill_tail a v l part h e =
     ap (λ (t : List ℕ). take a l ++ t)
     (ap₂ (λ (s t : List ℕ). s ++ t) (e ∙ ap (λ (k : ℕ). replicate k v) (mid_len a (length l) l (omega arith))) (Post-is a (length l) l h ∙ drop-length l)
     ∙ append-nil (replicate (length l - a) v))
-
--- the first n
-pub fill_front : (n : ℕ) (l part : List ℕ) → n ≤ length l → part ≡ replicate (length (mid_of 0 (n - 0) l)) 0 → put_mid 0 (n - 0) l part ≡ zeroed n l
-fill_front n l part h e =
-    let z : n - 0 ≡ n = omega arith in
-    ap₂ (λ (s t : List ℕ). s ++ t) (e ∙ ap (λ (k : ℕ). replicate k 0) (mid_len 0 n l h ∙ z)) (Post-is 0 n l (omega arith))

@@ -4,7 +4,7 @@ pub mod Order
 pub mod Chains
 pub mod Pick
 pub mod Live
-pub mod Links
+pub mod Linking
 pub mod Fills
 pub mod Pack
 pub mod Queue

@@ -2,13 +2,13 @@
 use mathlib.Core.Path.{◌≡◌, refl, sym, ◌∙◌}
 use mathlib.Core.Logic.{◌⊎◌, inl, inr}
 use mathlib.Core.List.{List}
-use Prim.Native.Nat.{ℕ, zero, suc, ◌+◌, ◌-◌, ◌*◌, ◌/◌, ◌^◌, ◌≤◌, ◌<◌}
+use Prim.Native.Nat.{ℕ, zero, suc, ◌+◌, ◌-◌, ◌/◌, ◌^◌, ◌≤◌, ◌<◌}
 use native.Mathlib.Omega.{arith}
 use lib.ListN.{length, get_or, set, length-set}
 use lib.Seq.{get_or-set_same, get_or-set_other}
 use Rattle.bpe.specs.Look.{entry}
 use Rattle.bpe.specs.Links.{Past}
-use Rattle.bpe.specs.Heap.{Child, Ordered, Member, Up, Down, Sifted, Least, Pushed, Taken}
+use Rattle.bpe.specs.Heap.{Child, Ordered, Member, Up, Down, Sifted, Pushed, Taken}
 use Rattle.token.proofs.Cases.{by_equal}
 use Rattle.bpe.proofs.Same.{read}
 
@@ -77,23 +77,6 @@ module _ {h h' : List ℕ} {a b : ℕ} (s : Swapped h h' a b) (len : ℕ) (la : 
           let e : p ≡ a = omega arith in
           omega (arith, read h' e, s.first, s.rest c (λ g. omega arith) (λ g. omega arith), u.order b c m l (λ g. omega arith))
 
--- ---- where a sift ends
-
-module _ {h : List ℕ} {len at : ℕ} where
-  pub up_top : Up h len at → at ≡ 0 → Ordered h len
-  up_top u e i c k l = u.order i c k l (λ f. omega arith)
-
-  pub up_stop : (p : ℕ) → Up h len at → Child p at → get_or h p 0 ≤ get_or h at 0 → Ordered h len
-  up_stop p u ch g i c k l =
-      by_equal c at (λ e. let f : i ≡ p = omega arith in omega (arith, read h e, read h f)) (λ n. u.order i c k l n)
-
-  pub down_end : Down h len at → len ≤ 2 * at + 1 → Ordered h len
-  down_end u m i c k l = u.order i c k l (λ e. omega arith)
-
-  pub down_stop : (b : ℕ) → Down h len at → ((d : ℕ) → Child at d → d < len → get_or h b 0 ≤ get_or h d 0) → get_or h at 0 ≤ get_or h b 0 → Ordered h len
-  down_stop b u least g i c k l =
-      by_equal i at (λ e. omega (arith, read h e, least c (omega arith) l)) (λ n. u.order i c k l n)
-
 -- ---- the first word is the least
 
 pub root_least : (h : List ℕ) (len : ℕ) → Ordered h len → (i : ℕ) → i < len → get_or h 0 0 ≤ get_or h i 0
@@ -107,16 +90,9 @@ root_least h len o i l = go i i (omega arith) l
 
 -- ---- putting in and taking out
 
--- a word is put at the end
-pub put_up : (h : List ℕ) (len e : ℕ) → Ordered h len → Up (set h len e) (len + 1) len
-put_up h len e o = record {
-  order = λ i c k l n. omega (arith, get_or-set_other h len i e 0 (λ f. omega arith), get_or-set_other h len c e 0 n, o i c k (omega arith));
-  gap = λ p c k m l. absurd (omega arith);
-}
-
-pub pushed : (h h' : List ℕ) (len e : ℕ) → len < length h → Sifted (set h len e) (len + 1) h' → Pushed h len e h'
+pub pushed : (h h' : List ℕ) (len e : ℕ) → len < length h → Sifted (set h len e) (len + 1) h' → Pushed h len e h' (len + 1)
 pushed h h' len e l s = record {
-  ordered = s.ordered;
+  more = refl;
   new = s.to e (len, (omega arith), get_or-set_same h len e 0 l);
   old = λ x (i, m, f). s.to x (i, (omega arith), get_or-set_other h len i e 0 (λ g. omega arith) ∙ f);
   only = λ x k. only x (s.back x k);
@@ -128,13 +104,6 @@ pushed h h' len e l s = record {
         by_equal i len (λ g. inl (sym f ∙ read (set h len e) g ∙ get_or-set_same h len e 0 l))
         (λ n. inr (i, (omega arith), sym (get_or-set_other h len i e 0 n) ∙ f))
 
--- the last word is put first
-pub put_down : (h : List ℕ) (len k : ℕ) → k + 1 ≡ len → Ordered h len → Down (set h 0 (get_or h k 0)) k 0
-put_down h len k le o = record {
-  order = λ i c m l n. omega (arith, get_or-set_other h 0 i (get_or h k 0) 0 n, get_or-set_other h 0 c (get_or h k 0) 0 (λ f. omega arith), o i c m (omega arith));
-  gap = λ p c m l. absurd (omega arith);
-}
-
 -- ---- a sift on its way
 
 pub record Kept (h : List ℕ) (len : ℕ) (h' : List ℕ) : Type 0 where
@@ -142,9 +111,6 @@ pub record Kept (h : List ℕ) (len : ℕ) (h' : List ℕ) : Type 0 where
   pub to : (e : ℕ) → Member h len e → Member h' len e
   pub back : (e : ℕ) → Member h' len e → Member h len e
   pub past : Past len h h'
-
-pub kept_none : (h : List ℕ) (len : ℕ) → Kept h len h
-kept_none h len = record { long = refl; to = λ e m. m; back = λ e m. m; past = λ i l. refl }
 
 pub kept_swap : {h h' : List ℕ} (len a b : ℕ) → Kept h len h' → a < len → b < len → a < length h' → b < length h' → (a ≡ b → ⊥)
     → Kept h len (set (set h' a (get_or h' b 0)) b (get_or h' a 0))
@@ -157,30 +123,10 @@ kept_swap {h} {h'} len a b k la lb ma mb n =
       past = λ i l. past_swap s len la lb i l ∙ k.past i l;
     }
 
-pub sifted : {h h' : List ℕ} {len : ℕ} → Kept h len h' → Ordered h' len → Sifted h len h'
-sifted k o = record { ordered = o; to = k.to; back = k.back; past = k.past }
-
 -- ---- the lesser child
 
 pub lt_of_le_ne : (a b : ℕ) → a ≤ b → (a ≡ b → ⊥) → a < b
 lt_of_le_ne a b l n = omega arith
-
-child_other : (i b o d : ℕ) → Child i b → Child i o → Child i d → (b ≡ o → ⊥) → (d ≡ b → ⊥) → d ≡ o
-child_other i b o d kb ko kd n m = omega arith
-
-pub one_child : (h : List ℕ) (len i : ℕ) → 2 * i + 1 < len → len ≤ 2 * i + 1 + 1 → Least h len i (2 * i + 1)
-one_child h len i l m = record {
-  child = omega arith;
-  inside = l;
-  least = λ d k n. let e : d ≡ 2 * i + 1 = omega arith in omega (arith, read h e);
-}
-
-pub two_children : (h : List ℕ) (len i b o : ℕ) → Child i b → Child i o → b < len → (b ≡ o → ⊥) → get_or h b 0 ≤ get_or h o 0 → Least h len i b
-two_children h len i b o kb ko l n le = record {
-  child = kb;
-  inside = l;
-  least = λ d k m. by_equal d b (λ e. omega (arith, read h e)) (λ nb. let e : d ≡ o = child_other i b o d kb ko k n nb in omega (arith, read h e));
-}
 
 -- ---- taking out
 
@@ -195,7 +141,6 @@ taken h h' len k m p le ll o e sm s =
       least = λ x (i, l, f). omega (arith, e, f, root_least h len o i l);
       others = others;
       only = λ x q. only x (s.back x q);
-      ordered = s.ordered;
       past = λ i l. s.past i (omega arith) ∙ get_or-set_other h 0 i (get_or h k 0) 0 (λ g. omega arith);
     }
   where

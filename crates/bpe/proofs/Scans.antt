@@ -18,7 +18,7 @@ use Rattle.bpe.specs.Small.{Ranked, Linked8, Picks, IsPair, Placed, Between, Bac
 use Rattle.token.proofs.Cases.{by_equal}
 use Rattle.bpe.proofs.Same.{read}
 use Rattle.bpe.proofs.Entries.{entry_order}
-use Rattle.bpe.proofs.Links.{cut}
+use Rattle.bpe.proofs.Linking.{cut}
 use Rattle.bpe.proofs.Live.{live_left, live_right, live_rises, each_joined, joined_rest, live_merged, live_done, live_start}
 use Rattle.bpe.proofs.Drains.{answered}
 

@@ -1,9 +1,8 @@
 -- A min-heap in the first words of a row: its order, its members, and what the functions on it do. Assumes nothing.
-use Rattle.std.specs.Prelude.{◌≡◌, ◌⊎◌, List, ℕ, ◌+◌, ◌*◌, ◌^◌, ◌≤◌, ◌<◌, get_or}
+use Rattle.std.specs.Prelude.{◌≡◌, ◌⊎◌, Option, Some, None, List, ℕ, ◌+◌, ◌*◌, ◌^◌, ◌≤◌, ◌<◌, get_or}
 use Rattle.bpe.specs.Look.{entry}
 use Rattle.bpe.specs.Links.{Past}
-use Rattle.bpe.specs.declared.heap.Popped.{Popped}
-use Rattle.bpe.specs.declared.heap.Popped.TheVariants.{Empty, Entry}
+use Rattle.bpe.specs.declared.heap.Entry.{Entry}
 
 -- c is a child of i
 abbrev pub Child : ℕ → ℕ → Type 0
@@ -38,12 +37,13 @@ pub record Least (h : List ℕ) (len i c : ℕ) : Type 0 where
   pub inside : c < len
   pub least : (d : ℕ) → Child i d → d < len → get_or h c 0 ≤ get_or h d 0
 
-pub record Pushed (h : List ℕ) (len e : ℕ) (h' : List ℕ) : Type 0 where
-  pub ordered : Ordered h' (len + 1)
-  pub new : Member h' (len + 1) e
-  pub old : (x : ℕ) → Member h len x → Member h' (len + 1) x
-  pub only : (x : ℕ) → Member h' (len + 1) x → (x ≡ e) ⊎ Member h len x
-  pub past : Past (len + 1) h h'
+-- one more: k entries are in h'
+pub record Pushed (h : List ℕ) (len e : ℕ) (h' : List ℕ) (k : ℕ) : Type 0 where
+  pub more : k ≡ len + 1
+  pub new : Member h' k e
+  pub old : (x : ℕ) → Member h len x → Member h' k x
+  pub only : (x : ℕ) → Member h' k x → (x ≡ e) ⊎ Member h len x
+  pub past : Past k h h'
 
 -- the least entry, of the rank r at the place p, was taken out, and k are left
 pub record Taken (h : List ℕ) (len : ℕ) (h' : List ℕ) (r p k : ℕ) : Type 0 where
@@ -53,9 +53,8 @@ pub record Taken (h : List ℕ) (len : ℕ) (h' : List ℕ) (r p k : ℕ) : Type
   pub least : (x : ℕ) → Member h len x → entry r p ≤ x
   pub others : (x : ℕ) → Member h len x → (x ≡ entry r p) ⊎ Member h' k x
   pub only : (x : ℕ) → Member h' k x → Member h len x
-  pub ordered : Ordered h' k
   pub past : Past len h h'
 
-abbrev pub Took : List ℕ → ℕ → List ℕ → Popped → Type 0
-Took h len h' Empty = (len ≡ 0) × (h' ≡ h)
-Took h len h' (Entry r p k) = Taken h len h' r p k
+abbrev pub Took : List ℕ → ℕ → List ℕ → ℕ → Option Entry → Type 0
+Took h len h' k None = (len ≡ 0) × (k ≡ 0) × (h' ≡ h)
+Took h len h' k (Some e) = Taken h len h' e.merged e.place k

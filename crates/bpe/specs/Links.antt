@@ -1,5 +1,6 @@
 -- Places of a row, linked both ways. `end` is the next of a place that has none, `before` the prev of the first place. Assumes nothing.
-use Rattle.std.specs.Prelude.{◌≡◌, ◌⊎◌, Bool, true, false, List, [], ◌∷◌, ◌++◌, map, ℕ, zero, suc, ◌+◌, ◌-◌, ◌≤◌, ◌<◌, eqb, length, get_or, replicate}
+use Rattle.std.specs.Prelude.{◌≡◌, ◌⊎◌, Option, Some, None, Bool, true, false, List, [], ◌∷◌, ◌++◌, map, ℕ, zero, suc, ◌+◌, ◌-◌, ◌≤◌, ◌<◌, eqb, length, get_or, replicate}
+use Rattle.std.specs.Borrow.{MutBor}
 use Rattle.token.specs.Limits.{no_id}
 use Rattle.merging.specs.Merging.{Lookup, merging, In}
 
@@ -16,6 +17,19 @@ Each end n next P = (i : ℕ) → i < n → (get_or next i 0 ≡ end → ⊥) �
 -- a next is a place past it
 abbrev pub Rises : ℕ → ℕ → List ℕ → Type 0
 Rises end n next = Each end n next (λ a b. (a < b) × (b < n))
+
+-- a prev is a place
+abbrev pub Backs : ℕ → ℕ → List ℕ → Type 0
+Backs before n prev = Each before n prev (λ a b. b < n)
+
+-- what a link says: a place, or that there is none
+abbrev pub IsPlace : ℕ → ℕ → Option ℕ → Type 0
+IsPlace end x None = x ≡ end
+IsPlace end x (Some q) = (x ≡ q) × (q ≡ end → ⊥)
+
+-- a lent row is still the same one, and as long
+abbrev pub Stays : {A : Type 0} → MutBor (List A) → MutBor (List A) → Type 0
+Stays w w' = (w'.ghost_name ≡ w.ghost_name) × (length w'.now ≡ length w.now)
 
 -- each of n places is linked to the next and to the one before
 pub record Fresh (before end n : ℕ) (next prev : List ℕ) : Type 0 where
@@ -87,6 +101,14 @@ pub record Walk (end n : ℕ) (next live : List ℕ) : Type 0 where
   pub first : get_or live 0 1 ≡ 0
   pub follows : Chain (λ a b. get_or next a 0 ≡ b) (Last end next) live
   pub inside : (a : ℕ) → In a live → a < n
+
+-- what P says of each of n places: nothing, or a place past it
+abbrev pub Climbs : (ℕ → Option ℕ → Type 0) → ℕ → Type 0
+Climbs P n = (i q : ℕ) → i < n → P i (Some q) → (i < q) × (q < n)
+
+-- what P says of each of n places is what its link says
+abbrev pub Reads : (ℕ → Option ℕ → Type 0) → ℕ → ℕ → List ℕ → Type 0
+Reads P end n next = (i : ℕ) (r : Option ℕ) → i < n → P i r → IsPlace end (get_or next i 0) r
 
 -- what stands at those places is at the front, and none behind it
 pub record Compacted (end : ℕ) (row next row' : List ℕ) (count : ℕ) : Type 0 where

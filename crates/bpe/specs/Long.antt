@@ -5,8 +5,8 @@ use Rattle.merging.specs.Merging.{Lookup, merge}
 use Rattle.bpe.specs.Limits.{most_small}
 use Rattle.bpe.specs.Calls.{merged_row, zeroed}
 use Rattle.bpe.specs.Look.{look_by, rank_at, entry}
-use Rattle.bpe.specs.Links.{Past, Each, Rises, Fresh, unless, links, Cut, symbols, Live}
-use Rattle.bpe.specs.Heap.{Ordered, Member}
+use Rattle.bpe.specs.Links.{Each, unless, links, Cut, symbols, Live}
+use Rattle.bpe.specs.Heap.{Member}
 
 -- the memory is large enough for n ids
 pub record Room (n : ℕ) (row next prev heap : List ℕ) : Type 0 where
@@ -25,47 +25,33 @@ IsEntry n x = (x % 2 ^ 32 < n) × (x / 2 ^ 32 < no_id)
 abbrev pub Queued : (ℕ → ℕ → ℕ) → List ℕ → List ℕ → ℕ → ℕ → ℕ → Type 0
 Queued rk row heap len a b = (rank_at rk row a b ≡ no_id → ⊥) → Member heap len (entry (rank_at rk row a b) a)
 
--- so many entries are queued for the places a and b: one if both are places and their pair has a rule
+-- so many entries are queued for the places a and b: one if their pair has a rule
 abbrev pub offers : (ℕ → ℕ → ℕ) → List ℕ → ℕ → ℕ → ℕ
-offers rk row a b = cond (eqb a no_id) 0 (cond (eqb b no_id) 0 (unless (eqb (rank_at rk row a b) no_id)))
+offers rk row a b = unless (eqb (rank_at rk row a b) no_id)
 
 pub record Offered (rk : ℕ → ℕ → ℕ) (row heap : List ℕ) (len a b : ℕ) (heap' : List ℕ) (len' : ℕ) : Type 0 where
-  pub ordered : Ordered heap' len'
   pub old : (x : ℕ) → Member heap len x → Member heap' len' x
-  pub new : (a ≡ no_id → ⊥) → (b ≡ no_id → ⊥) → Queued rk row heap' len' a b
+  pub new : Queued rk row heap' len' a b
   pub only : (x : ℕ) → Member heap' len' x → Member heap len x ⊎ IsEntry (length row) x
   pub grew : len' ≡ len + offers rk row a b
-  pub past : Past (len + 1) heap heap'
 
--- what the queueing around p wants
-pub record Around (row next prev heap : List ℕ) (len p : ℕ) : Type 0 where
-  pub few : length row ≤ most_row
-  pub in_row : p < length row
-  pub in_next : p < length next
-  pub in_prev : p < length prev
-  pub right : (get_or next p 0 ≡ no_id → ⊥) → get_or next p 0 < length row
-  pub left : (get_or prev p 0 ≡ no_id → ⊥) → get_or prev p 0 < length row
+-- what a turn at p, and the queueing around it, want: each place of the row has its links, and two more entries fit
+pub record Ready (row next heap : List ℕ) (len p : ℕ) : Type 0 where
+  pub long : length next ≡ length row
+  pub place : p < length row
   pub fits : len + 2 ≤ length heap
-  pub ordered : Ordered heap len
+
+-- so many entries are queued for a place and its link: none if that is no place
+abbrev pub offers_at : ℕ → ℕ → ℕ
+offers_at x k = cond (eqb x no_id) 0 k
 
 -- both pairs of p are queued if they have rules
 pub record Requeued (rk : ℕ → ℕ → ℕ) (row next prev heap : List ℕ) (len p : ℕ) (heap' : List ℕ) (len' : ℕ) : Type 0 where
-  pub ordered : Ordered heap' len'
   pub old : (x : ℕ) → Member heap len x → Member heap' len' x
   pub left : (get_or prev p 0 ≡ no_id → ⊥) → Queued rk row heap' len' (get_or prev p 0) p
   pub right : (get_or next p 0 ≡ no_id → ⊥) → Queued rk row heap' len' p (get_or next p 0)
   pub only : (x : ℕ) → Member heap' len' x → Member heap len x ⊎ IsEntry (length row) x
-  pub grew : len' ≡ len + (offers rk row (get_or prev p 0) p + offers rk row p (get_or next p 0))
-  pub past : Past (len + 2) heap heap'
-
--- what one turn wants
-pub record Ready (n : ℕ) (row next prev heap : List ℕ) (len p : ℕ) : Type 0 where
-  pub mem : Room n row next prev heap
-  pub place : p < n
-  pub nexts : Rises no_id n next
-  pub left : (get_or next p 0 ≡ no_id → ⊥) → (get_or prev p 0 ≡ no_id → ⊥) → get_or prev p 0 < n
-  pub ordered : Ordered heap len
-  pub fits : len + 2 ≤ length heap
+  pub grew : len' ≡ len + (offers_at (get_or prev p 0) (offers rk row (get_or prev p 0) p) + offers_at (get_or next p 0) (offers rk row p (get_or next p 0)))
 
 -- a popped entry was stale
 pub record Dropped (rk : ℕ → ℕ → ℕ) (row next prev heap : List ℕ) (len r p : ℕ) (row' next' prev' heap' : List ℕ) (len' : ℕ) : Type 0 where
@@ -92,41 +78,26 @@ Turned rk mg row next prev heap len r p row' next' prev' heap' len' =
 pub record Going (rk mg : ℕ → ℕ → ℕ) (given : List ℕ) (n : ℕ) (row next prev heap : List ℕ) (len : ℕ) : Type 0 where
   pub lives : Live no_id no_id (look_by rk mg) given n row next prev
   pub queued : Each no_id n next (Queued rk row heap len)
-  pub ordered : Ordered heap len
   pub entries : (x : ℕ) → Member heap len x → IsEntry n x
   pub room : len + links no_id n next < 2 * n
 
 -- the run begins
 pub record Start (rk mg : ℕ → ℕ → ℕ) (row next prev heap : List ℕ) (len : ℕ) : Type 0 where
-  pub mem : Room (length row) row next prev heap
+  pub few : length row ≤ most_row
+  pub long : length next ≡ length row
+  pub heap_long : 2 * length row ≤ length heap
   pub going : Going rk mg row (length row) row next prev heap len
 
 -- the run is at its end
-pub record Drained (rk mg : ℕ → ℕ → ℕ) (row next prev heap row' next' prev' heap' : List ℕ) : Type 0 where
+pub record Drained (rk mg : ℕ → ℕ → ℕ) (row row' next' prev' : List ℕ) : Type 0 where
   pub lives : Live no_id no_id (look_by rk mg) row (length row) row' next' prev'
   pub done : symbols row' lives.live ≡ merge (look_by rk mg) row
-  pub next_past : Past (length row) next next'
-  pub prev_past : Past (length row) prev prev'
-  pub heap_past : Past (2 * length row) heap heap'
-
--- the links are fresh, up to n
-pub record Relinked (n : ℕ) (next prev next' prev' : List ℕ) : Type 0 where
-  pub fresh : Fresh no_id no_id n next' prev'
-  pub next_past : Past n next next'
-  pub prev_past : Past n prev prev'
 
 -- every pair of the row that has a rule is queued
-pub record Seeded (rk : ℕ → ℕ → ℕ) (row heap heap' : List ℕ) (len : ℕ) : Type 0 where
-  pub ordered : Ordered heap' len
-  pub queued : (i : ℕ) → i + 1 < length row → Queued rk row heap' len i (i + 1)
-  pub entries : (x : ℕ) → Member heap' len x → IsEntry (length row) x
+pub record Seeded (rk : ℕ → ℕ → ℕ) (row heap : List ℕ) (len : ℕ) : Type 0 where
+  pub queued : (i : ℕ) → i + 1 < length row → Queued rk row heap len i (i + 1)
+  pub entries : (x : ℕ) → Member heap len x → IsEntry (length row) x
   pub bound : len < length row
-  pub past : Past (2 * length row) heap heap'
-
--- the row is linked and its pairs are queued
-pub record Begun (rk : ℕ → ℕ → ℕ) (row next prev heap : List ℕ) (len : ℕ) (next' prev' heap' : List ℕ) : Type 0 where
-  pub linked : Relinked (length row) next prev next' prev'
-  pub seeded : Seeded rk row heap heap' len
 
 -- scratch for n ids is zero
 pub record Cleared (n : ℕ) (next prev heap next' prev' heap' : List ℕ) : Type 0 where

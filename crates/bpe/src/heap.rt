@@ -1,38 +1,79 @@
-// A min-heap of entries in the first words of a lent row. An entry is a merged id, which is the priority, with a place.
+// A min-heap of entries in the first words of a lent row.
 ghost use Rattle.std.specs.Prelude.{◌≡◌, ◌+◌, ◌*◌, ◌/◌, ◌%◌, ◌^◌, ◌≤◌, ◌<◌, length};
 ghost use Rattle.bpe.specs.Look.{entry as entry_of};
+ghost use Rattle.bpe.specs.Links.{Stays};
 ghost use Rattle.bpe.specs.Heap.{Ordered, Up, Down, Sifted, Least, Pushed, Took};
 
-// A merged id, which is the priority, with the place of its pair.
+// A merged id, which is the priority, and a place. As a word the id is the upper half, so words are in the order of entries.
 #[derive(Clone, Copy, PartialEq, Eq, Debug)]
 pub struct Entry {
     pub merged: u32,
     pub place: u32,
 }
 
-#[derive(Clone, Copy)]
-pub enum Popped {
-    Empty,
-    // merged id, place, and how many are left
-    Entry(u32, u32, usize),
+impl From<Entry> for u64 {
+    ghost from_gives = { λ e w. w ≡ entry_of e.merged e.place };
+
+    fn from(entry: Entry) -> u64 {
+        (u64::from(entry.merged) << 32) | u64::from(entry.place)
+    }
 }
 
-pub fn pack_merge_entry(merged: u32, place: u32) -> u64
-    ensures { result ≡ entry_of merged place }
-{
-    ((merged as u64) << 32) | place as u64
+impl From<u64> for Entry {
+    ghost from_gives = { λ w e. (e.merged ≡ w / 2 ^ 32) × (e.place ≡ w % 2 ^ 32) };
+
+    fn from(word: u64) -> Entry {
+        Entry {
+            merged: (word >> 32) as u32,
+            place: (word & 0xFFFF_FFFF) as u32,
+        }
+    }
 }
 
-pub fn entry_merged(entry: u64) -> u32
-    ensures { result ≡ entry / 2 ^ 32 }
-{
-    (entry >> 32) as u32
+// The first words of a lent row, so many as the heap has entries.
+#[derive(Drop)]
+pub struct Heap<'a> {
+    words: &'a mut [u64],
+    len: usize,
+    ghost fits: { len ≤ length words.now },
+    ghost ordered: { Ordered words.now len },
 }
 
-pub fn entry_place(entry: u64) -> u32
-    ensures { result ≡ entry % 2 ^ 32 }
-{
-    (entry & 0xFFFF_FFFF) as u32
+impl<'a> Heap<'a> {
+    pub fn new(words: &'a mut [u64]) -> Heap<'a>
+        ensures row { Stays words.entry result.words }
+        ensures len { result.len ≡ 0 }
+    {
+        Heap { words, len: 0 }
+    }
+
+    pub fn push(&mut self, entry: Entry)
+        requires { self.old.len < length self.old.words.now }
+        ensures row { Stays self.old.words self.new.words }
+        ensures pushed { Pushed self.old.words.now self.old.len (entry_of entry.merged entry.place) self.new.words.now self.new.len }
+    {
+        let at = self.len;
+        self.words[at] = u64::from(entry);
+        sift_up(self.words, at);
+        self.len = at + 1;
+    }
+
+    // The least entry is taken out, if there is one.
+    pub fn pop(&mut self) -> Option<Entry>
+        ensures row { Stays self.old.words self.new.words }
+        ensures took { Took self.old.words.now self.old.len self.new.words.now self.new.len result }
+    {
+        if self.len == 0 {
+            return None;
+        }
+        self.len -= 1;
+        let last = self.len;
+        let words = &mut *self.words;
+        let top = words[0];
+        words[0] = words[last];
+        sift_down(words, last);
+        Some(Entry::from(top))
+    }
 }
 
 // The word at `from`, the last of the heap, goes up to where it belongs.
@@ -88,26 +129,4 @@ fn sift_down(heap: &mut [u64], len: usize)
         heap[child] = word;
         at = child;
     }
-}
-
-pub fn push(heap: &mut [u64], len: usize, entry: u64)
-    requires { (len < length heap.old) × Ordered heap.old len }
-    ensures { Pushed heap.old len entry heap.new }
-{
-    heap[len] = entry;
-    sift_up(heap, len);
-}
-
-pub fn pop(heap: &mut [u64], len: usize) -> Popped
-    requires { (len ≤ length heap.old) × Ordered heap.old len }
-    ensures { Took heap.old len heap.new result }
-{
-    if len == 0 {
-        return Popped::Empty;
-    }
-    let left = len - 1;
-    let top = heap[0];
-    heap[0] = heap[left];
-    sift_down(heap, left);
-    Popped::Entry(entry_merged(top), entry_place(top), left)
 }

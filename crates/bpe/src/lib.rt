@@ -12,6 +12,7 @@ ghost use Rattle.bpe.specs.Long.{Fit, MergedWith};
 use token::{Refusal, TokenId};
 
 mod heap;
+mod links;
 mod long;
 mod small;
 

@@ -4,10 +4,11 @@ ghost use Rattle.token.specs.Limits.{no_id};
 ghost use Rattle.pairs.specs.Rank.{rank_of};
 ghost use Rattle.bpe.specs.Limits.{most_small};
 ghost use Rattle.bpe.specs.Look.{look_in};
-ghost use Rattle.bpe.specs.Links.{Rises, Compacted};
+ghost use Rattle.bpe.specs.Links.{IsPlace};
 ghost use Rattle.bpe.specs.Small.{Linked8, Picks, IsPair, Placed, Between, Backed, Reranked, Ready8, Joined8, MergedShort};
 
 use crate::heap::Entry;
+use crate::links::compact;
 use token::TokenId;
 
 // what stands before the first place
@@ -16,7 +17,7 @@ const BEFORE: u8 = 255;
 // The next of the last place is the row's length, and so is that of a place that was merged away. A place's rank is that of the pair that
 // starts there.
 #[derive(Clone, Copy)]
-pub struct Links {
+pub struct SmallLinks {
     next: [u8; 32],
     prev: [u8; 32],
     ranks: [u32; 32],
@@ -31,13 +32,13 @@ pub struct Pair {
     after: usize,
 }
 
-impl Links {
+impl SmallLinks {
     // Those of a row that is not merged yet.
-    fn of(slots: &[u64], row: &[u32]) -> Links
+    fn of(slots: &[u64], row: &[u32]) -> SmallLinks
         requires { (2 ≤ length row.now) × (length row.now ≤ most_small) }
         ensures { Linked8 (rank_of slots.now) row.now result.next result.prev result.ranks }
     {
-        let mut l = Links {
+        let mut l = SmallLinks {
             next: [0; 32],
             prev: [0; 32],
             ranks: [TokenId::NONE; 32],
@@ -52,6 +53,15 @@ impl Links {
         let last = row.len() - 1;
         l.next[last] = row.len() as u8;
         l
+    }
+
+    // What is next to a place of a row of n ids, if something is.
+    fn next_of(&self, n: usize, place: usize) -> Option<usize>
+        requires { place < most_small }
+        ensures { IsPlace n (get_or self.now.next place 0) result }
+    {
+        let after = usize::from(self.next[place]);
+        if after == n { None } else { Some(after) }
     }
 
     fn pair_at(&self, at: usize) -> Pair
@@ -75,7 +85,7 @@ impl Links {
         row: &mut [u32],
         p: Pair,
         merged: u32,
-    ) -> (Links, Option<Entry>)
+    ) -> (SmallLinks, Option<Entry>)
         requires { Ready8 row.old self.next self.prev self.ranks p }
         ensures { Joined8 (rank_of slots.now) row.old self.next self.prev self.ranks p merged row.new result.0.next result.0.prev result.0.ranks result.1 }
     {
@@ -145,37 +155,17 @@ fn rerank(slots: &[u64], row: &[u32], ranks: &mut [u32; 32], p: Pair)
     }
 }
 
-// Moves what stands at the linked places to the front, and none behind it. How many there are comes back.
-fn compact(row: &mut [u32], next: &[u8; 32]) -> usize
-    requires { (0 < length row.old) × (length row.old ≤ most_small) × Rises (length row.old) (length row.old) next.now }
-    ensures { Compacted (length row.old) row.old next.now row.new result }
-{
-    let n = row.len();
-    let mut count: usize = 0;
-    let mut i: usize = 0;
-    loop {
-        row[count] = row[i];
-        count += 1;
-        let after = usize::from(next[i]);
-        if after == n {
-            break;
-        }
-        i = after;
-    }
-    row[count..].fill(TokenId::NONE);
-    count
-}
-
 // Merges a row of 2 to 32 ids.
 pub fn bpe_merge_symbols_small(slots: &[u64], row: &mut [u32]) -> usize
     requires { (2 ≤ length row.old) × (length row.old ≤ most_small) }
     ensures { MergedShort (look_in (rank_of slots.now)) row.old result row.new }
 {
-    let mut l = Links::of(slots, row);
-    let mut entry = least(&l.ranks, row.len());
+    let n = row.len();
+    let mut l = SmallLinks::of(slots, row);
+    let mut entry = least(&l.ranks, n);
     while let Some(Entry { merged, place }) = entry {
         let p = l.pair_at(place as usize);
         (l, entry) = l.join(slots, row, p, merged);
     }
-    compact(row, &l.next)
+    compact(row, |place| l.next_of(n, place))
 }

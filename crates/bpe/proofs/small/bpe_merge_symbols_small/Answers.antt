@@ -1,7 +1,8 @@
 -- The invariant: the run is on its way. The measure: the links.
-use Rattle.std.proofs.Common.{refl, sym, arith, ◌∙◌}
+use Rattle.std.proofs.Common.{rules, length, refl, sym, arith, ◌∙◌}
 use Rattle.pairs.specs.Rank.{rank_of}
 use Rattle.pairs.proofs.Range.{rank_small}
+use Rattle.bpe.specs.Links.{Rises}
 use Rattle.bpe.proofs.Live.{live_rises}
 use Rattle.bpe.proofs.Scans.{scan_start, scan_place, scan_rank, scan_ready, scan_less, scan_turn, scan_end}
 use Rattle.bpe.proofs.small.bpe_merge_symbols_small.Goals as goal
@@ -34,14 +35,13 @@ loop-entry-preserved c =
     let g = rw c.in-Some.is at i.0 in
     (scan_turn g c.requires.1 i.1 p.0 p.1 c.join.ensures (sym (scan_rank g c.requires.1 i.1 p.0 p.1)), c.join.auto.row ∙ i.1)
 
-pub compact-requires : goal.compact-requires
-compact-requires c =
-    let p = c.requires in
+pub compact-requires-clause-climbs : goal.compact-requires-clause-climbs
+compact-requires-clause-climbs c =
     let i = c.loop-entry.invariant in
-    let e = i.1 in
-    (omega (arith, e, p.0), omega (arith, e, p.1), rw e (live_rises i.0.lives (omega arith)))
+    let rises : Rises (length c.args.row.now) (length c.loop-entry.row) c.loop-entry.l.next = rw i.1 (live_rises i.0.lives (omega arith)) in
+    search rules
 
 pub returns : goal.returns
 returns c =
     let i = c.loop-entry.invariant in
-    scan_end (rw c.in_default.is at i.0) (rank_small c.args.slots.now) c.requires.1 i.1 (rw i.1 at c.compact.ensures)
+    scan_end (rw c.in_default.is at i.0) (rank_small c.args.slots.now) c.requires.1 i.1 (c.compact.ensures (length c.args.row.now) c.loop-entry.l.next (omega arith) (λ i r l s. search rules))

@@ -4,8 +4,8 @@ use native.Mathlib.Omega.{arith}
 use lib.ListN.{replicate, get_or-replicate}
 use Rattle.token.specs.Limits.{no_id}
 use Rattle.bpe.specs.Limits.{most_small}
-use Rattle.bpe.proofs.Links.{link_start}
-use Rattle.bpe.proofs.small.Links.of.Goals as goal
+use Rattle.bpe.proofs.Linking.{link_start}
+use Rattle.bpe.proofs.small.SmallLinks.of.Goals as goal
 
 pub loop-i-init : goal.loop-i-init
 loop-i-init c =

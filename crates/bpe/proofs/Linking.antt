@@ -2,15 +2,13 @@
 use mathlib.Core.Path.{◌≡◌, refl, ap, ◌∙◌}
 use mathlib.Core.Bool.{Bool, true, false}
 use mathlib.Core.List.{List, [], ◌∷◌}
-use Prim.Native.Nat.{ℕ, zero, suc, ◌+◌, ◌-◌, ◌≤◌, ◌<◌}
+use Prim.Native.Nat.{ℕ, zero, suc, ◌+◌, ◌≤◌, ◌<◌}
 use native.Mathlib.Omega.{arith}
 use borrow.Author.Tests.{eq-eqb, ne_eqb}
 use lib.Dec.{eqb}
 use lib.ListN.{length, get_or, set, length-set}
 use lib.Seq.{get_or-set_same, get_or-set_other}
-use Rattle.bpe.specs.Links.{Past, Fresh, unless, links, Cut}
-use Rattle.token.proofs.Cases.{by_equal}
-use Rattle.bpe.proofs.Same.{read}
+use Rattle.bpe.specs.Links.{unless, links, Cut}
 
 -- ---- how many
 
@@ -80,39 +78,3 @@ module _ {before n : ℕ} where
     first = get_or-set_same prev 0 before 0 (omega arith);
     prevs = λ k h. absurd (omega arith);
   }
-
-  module _ {next prev : List ℕ} {i : ℕ} (l : Linking before n next prev i) where
-    pub link_turn : i < n → Linking before n (set next (i - 1) i) (set prev i (i - 1)) (i + 1)
-    link_turn lt =
-        let fr = l.from in
-        let nl = l.next_room in
-        let pl = l.prev_room in
-        record {
-          from = omega arith;
-          to = omega arith;
-          next_room = simp length-set nl;
-          prev_room = simp length-set pl;
-          nexts = λ k h. by_equal k (i - 1)
-              (λ e. read (set next (i - 1) i) e ∙ get_or-set_same next (i - 1) i 0 (omega arith) ∙ (omega arith))
-              (λ ne. get_or-set_other next (i - 1) k i 0 ne ∙ l.nexts k (omega arith));
-          first = get_or-set_other prev i 0 (i - 1) 0 (λ e. omega arith) ∙ l.first;
-          prevs = λ k h. by_equal (k + 1) i
-              (λ e. read (set prev i (i - 1)) e ∙ get_or-set_same prev i (i - 1) 0 (omega arith) ∙ (omega arith))
-              (λ ne. get_or-set_other prev i (k + 1) (i - 1) 0 ne ∙ l.prevs k (omega arith));
-        }
-
-    -- the last place has no next
-    pub link_end : (end : ℕ) → n ≤ i → Fresh before end n (set next (n - 1) end) prev
-    link_end end e =
-        let fr = l.from in
-        let to = l.to in
-        let nl = l.next_room in
-        record {
-          nexts = λ k h. get_or-set_other next (n - 1) k end 0 (λ f. omega arith) ∙ l.nexts k (omega arith);
-          last = λ k h. let f : k ≡ n - 1 = omega arith in read (set next (n - 1) end) f ∙ get_or-set_same next (n - 1) end 0 (omega arith);
-          first = l.first;
-          prevs = λ k h. l.prevs k (omega arith);
-        }
-
-pub past_set : (n : ℕ) (l₀ l : List ℕ) (i v : ℕ) → i < n → Past n l₀ l → Past n l₀ (set l i v)
-past_set n l₀ l i v h p k m = get_or-set_other l i k v 0 (λ e. omega arith) ∙ p k m
