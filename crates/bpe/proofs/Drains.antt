@@ -1,19 +1,23 @@
 -- The run with a heap: a stale entry, a merge, an empty heap; its beginning and its end. Assumes nothing.
-use mathlib.Core.Path.{◌≡◌, sym, ap, ap₂, subst, ◌∙◌}
-use mathlib.Core.Logic.{◌⊎◌, ⊎_elim}
+use mathlib.Core.Path.{◌≡◌, refl, sym, ap, ap₂, subst, ◌∙◌}
+use mathlib.Core.Logic.{◌⊎◌, inl, inr, ⊎_elim}
 use mathlib.Core.List.{List, ◌++◌}
 use Prim.Native.Nat.{ℕ, ◌+◌, ◌*◌, ◌-◌, ◌≤◌, ◌<◌}
 use native.Mathlib.Omega.{arith}
-use lib.ListN.{length, get_or, replicate, length-set, length-map}
+use lib.ListN.{length, get_or, set, drop, replicate, length-set, length-map, length-drop}
+use lib.Seq.{ext_get_or, get_or-drop}
 use Rattle.token.specs.Limits.{no_id, most_row}
 use Rattle.merging.specs.Merging.{Lookup, merge}
-use Rattle.bpe.specs.Calls.{merged_row}
+use Rattle.bpe.specs.Calls.{zeroed, merged_row}
 use Rattle.bpe.specs.Look.{look_by, rank_at, entry, After}
-use Rattle.bpe.specs.Links.{Each, Fresh, links, symbols, Compacted, Live}
-use Rattle.bpe.specs.Heap.{Member, Taken}
-use Rattle.bpe.specs.Long.{IsEntry, Queued, Requeued, Ready, Joined, Turned, Going, Start, Drained, Seeded}
+use Rattle.bpe.specs.Links.{Each, Fresh, links, Cut, symbols, Compacted, Live}
+use Rattle.bpe.specs.Heap.{Taken}
+use Rattle.bpe.specs.Long.{IsEntry, next_at, prev_at, Holds, Queued, Ready, Joined, Turned, Going, Drained, Seeded, Stay}
+use Rattle.bpe.specs.declared.heap.Entry.{Entry}
+use Rattle.bpe.specs.declared.heap.Heap.{Heap}
+use Rattle.bpe.specs.declared.links.Links.{Links}
 use Rattle.token.proofs.Cases.{by_equal}
-use Rattle.bpe.proofs.Same.{read}
+use Rattle.bpe.proofs.Same.{read, at_list}
 use Rattle.bpe.proofs.Entries.{entry_order, entry_same}
 use Rattle.bpe.proofs.Linking.{links_le}
 use Rattle.bpe.proofs.Live.{live_rises, prev_same, each_joined, joined_rest, live_merged, live_done, live_start, live_walk}
@@ -21,142 +25,120 @@ use Rattle.bpe.proofs.Queue.{offers_le, offers_at_le}
 
 -- ---- one turn
 
-module _ {rk mg : ℕ → ℕ → ℕ} {given : List ℕ} {n : ℕ} {row next prev heap : List ℕ} {len : ℕ} (g : Going rk mg given n row next prev heap len) (few : n ≤ most_row)
-    {heap₁ : List ℕ} {r p k : ℕ} (t : Taken heap len heap₁ r p k) where
-  wide : n ≤ no_id
-  wide = omega arith
+module _ {rk mg : ℕ → ℕ → ℕ} {given row : List ℕ} {l : Links} {h : Heap} (g : Going rk mg given row l h) (h₁ : Heap) (e : Entry) (t : Taken h.words.now h.len h₁.words.now e.merged e.place h₁.len) where
+  wide : length given ≤ no_id
+  wide = omega (arith, g.long, l.few)
 
-  pub place_inside : p < n
-  place_inside = omega (arith, g.entries (entry r p) t.was, t.small)
+  inside : e.place < length given
+  inside = omega (arith, g.entries (entry e.merged e.place) t.was, t.small)
 
-  rank_small : r < no_id
-  rank_small = omega (arith, g.entries (entry r p) t.was, t.small)
+  rank_small : e.merged < no_id
+  rank_small = omega (arith, g.entries (entry e.merged e.place) t.was, t.small)
 
-  -- an entry other than the popped one is still there
-  still : (s a : ℕ) → a < n → (s ≡ r → a ≡ p → ⊥) → Member heap len (entry s a) → Member heap₁ k (entry s a)
-  still s a l nt mem =
-      ⊎_elim (λ e. let (f, h) = entry_same s a r p (omega arith) t.small e in absurd (nt f h)) (λ x. x) (t.others (entry s a) mem)
-
-  going_dropped : (get_or next p 0 ≡ no_id) ⊎ (rank_at rk row p (get_or next p 0) ≡ r → ⊥) → Going rk mg given n row next prev heap₁ k
-  going_dropped stale = record {
-    lives = g.lives;
-    queued = λ i l ne nn. still (rank_at rk row i (get_or next i 0)) i l
-        (λ e f. ⊎_elim (λ z. ne (read next f ∙ z)) (λ z. z (ap₂ (rank_at rk row) (sym f) (sym (read next f)) ∙ e)) stale) (g.queued i l ne nn);
-    entries = λ x y. g.entries x (t.only x y);
-    room = omega (arith, g.room, t.less);
+  pub turn_ready : length h₁.words.now ≡ length h.words.now → Ready row l h₁ e.place
+  turn_ready hl = record {
+    long = g.long ∙ sym g.row_long;
+    place = omega (arith, inside, g.row_long);
+    fits = omega (arith, t.less, g.room, g.heap_long, hl);
   }
 
+  -- an entry other than the popped one is still there
+  still : (s a : ℕ) → a < length given → (s ≡ e.merged → a ≡ e.place → ⊥) → Holds h (entry s a) → Holds h₁ (entry s a)
+  still s a la nt m =
+      let w = wide in
+      ⊎_elim (λ f. let (x, y) = entry_same s a e.merged e.place (omega arith) t.small f in absurd (nt x y)) (λ x. x) (t.others (entry s a) m)
+
   -- the popped entry comes before every pair
-  after : Each no_id n next (After rk row r p)
-  after i l ne nn = entry_order r p (rank_at rk row i (get_or next i 0)) i t.small (omega arith) (t.least _ (g.queued i l ne nn))
+  after : Each no_id (length given) l.next.now (After rk row e.merged e.place)
+  after i li ne nn =
+      let w = wide in
+      entry_order e.merged e.place (rank_at rk row i (next_at l i)) i t.small (omega arith) (t.least _ (g.queued i li ne nn))
 
-  module _ {row' next' prev' heap' : List ℕ} {len' : ℕ} (j : Joined rk mg row next prev heap₁ k r p row' next' prev' heap' len') (rl : length row ≡ n) where
-    o : Requeued rk row' next' prev' heap₁ k p heap' len'
-    o = j.queued
-
-    grew : len' ≤ k + 2
-    grew = omega (
-      arith,
-      o.grew,
-      offers_at_le (get_or prev' p 0) _ (offers_le rk row' (get_or prev' p 0) p),
-      offers_at_le (get_or next' p 0) _ (offers_le rk row' p (get_or next' p 0)),
-    )
-
-    fewer : links no_id n next' + 1 ≡ links no_id n next
-    fewer = j.cut.fewer n place_inside (live_rises g.lives wide p place_inside j.linked).1 j.linked
-
-    rl' : length row' ≡ n
-    rl' = ap length j.row_is ∙ length-set row p (rank_at mg row p (get_or next p 0)) ∙ rl
-
-    rest : (i : ℕ) → (i ≡ p → ⊥) → get_or row' i 0 ≡ get_or row i 0
-    rest = joined_rest g.lives wide p place_inside j.linked next' prev' j.cut row' (rank_at mg row p (get_or next p 0)) j.row_is rl
-
-    queued : Each no_id n next' (Queued rk row' heap' len')
-    queued =
-        each_joined g.lives wide p place_inside j.linked next' prev' j.cut (Queued rk row heap len) (Queued rk row' heap' len') g.queued
-        (λ a l e.
-        let f : get_or prev' p 0 ≡ a = prev_same g.lives wide p place_inside j.linked next' prev' j.cut ∙ e in
-        subst (λ (z : ℕ). Queued rk row' heap' len' z p) f (o.left (λ z. omega arith)))
-        o.right
-        (λ a l na nq nx qd nn.
-        let e : rank_at rk row' a (get_or next a 0) ≡ rank_at rk row a (get_or next a 0) = ap₂ rk (rest a na) (rest (get_or next a 0) nx) in
-        subst (λ (z : ℕ). Member heap' len' (entry z a)) (sym e) (o.old _ (still (rank_at rk row a (get_or next a 0)) a l (λ f h. na h) (qd (λ z. nn (e ∙ z))))))
-
-    going_joined : Going rk mg given n row' next' prev' heap' len'
-    going_joined = record {
-      lives = live_merged rk mg g.lives wide p place_inside j.linked next' prev' row' j.cut j.row_is rl r j.ranked (λ e. omega (arith, rank_small)) after;
-      queued = queued;
-      entries = λ x y. ⊎_elim (λ z. g.entries x (t.only x z)) (λ z. subst (λ (m : ℕ). IsEntry m x) rl' z) (o.only x y);
-      room = omega (arith, g.room, t.less, grew, fewer);
+  module _ (hl : length h₁.words.now ≡ length h.words.now) where
+    going_dropped : (next_at l e.place ≡ no_id) ⊎ (rank_at rk row e.place (next_at l e.place) ≡ e.merged → ⊥) → Going rk mg given row l h₁
+    going_dropped stale = record {
+      row_long = g.row_long;
+      long = g.long;
+      heap_long = omega (arith, g.heap_long);
+      lives = g.lives;
+      queued = λ i li ne nn. still (rank_at rk row i (next_at l i)) i li
+          (λ x y. ⊎_elim (λ z. ne (read l.next.now y ∙ z)) (λ z. z (ap₂ (rank_at rk row) (sym y) (sym (read l.next.now y)) ∙ x)) stale) (g.queued i li ne nn);
+      entries = λ x y. g.entries x (t.only x y);
+      room = omega (arith, g.room, t.less);
     }
 
-  -- what a turn keeps
-  module _ {row' next' prev' heap' : List ℕ} {len' : ℕ} (x : Turned rk mg row next prev heap₁ k r p row' next' prev' heap' len') (rl : length row ≡ n) where
-    pub turned_going : Going rk mg given n row' next' prev' heap' len'
-    turned_going =
-        ⊎_elim (λ y. rw (y.row_is, y.next_is, y.prev_is, y.heap_is, y.len_is) (going_dropped y.stale))
-        (λ j. going_joined j rl) x
+    module _ {row' : List ℕ} {l' : Links} {h' : Heap} (s : Stay l h₁ l' h') where
+      module _ (j : Joined rk mg row l h₁ e row' l' h') where
+        grew : h'.len ≤ h₁.len + 2
+        grew = omega (
+          arith,
+          j.queued.grew,
+          offers_at_le (prev_at l' e.place) _ (offers_le rk row' (prev_at l' e.place) e.place),
+          offers_at_le (next_at l' e.place) _ (offers_le rk row' e.place (next_at l' e.place)),
+        )
 
-    pub turned_less : len' + 2 * links no_id n next' < len + 2 * links no_id n next
-    turned_less =
-        ⊎_elim (λ y. omega (arith, y.len_is, t.less, ap (links no_id n) y.next_is))
-        (λ j. omega (arith, t.less, grew j rl, fewer j rl)) x
+        fewer : links no_id (length given) l'.next.now + 1 ≡ links no_id (length given) l.next.now
+        fewer = j.cut.fewer (length given) inside (live_rises g.lives wide e.place inside j.linked).1 j.linked
 
--- ---- until the heap is empty
+        row_long : length row' ≡ length given
+        row_long = ap length j.row_is ∙ length-set row e.place (rank_at mg row e.place (next_at l e.place)) ∙ g.row_long
 
-pub record Draining (rk mg : ℕ → ℕ → ℕ) (given row next prev heap : List ℕ) (len : ℕ) : Type 0 where
-  pub going : Going rk mg given (length given) row next prev heap len
-  pub few : length given ≤ most_row
-  pub row_long : length row ≡ length given
-  pub long : length next ≡ length given
-  pub heap_long : 2 * length given ≤ length heap
+        rest : (i : ℕ) → (i ≡ e.place → ⊥) → get_or row' i 0 ≡ get_or row i 0
+        rest = joined_rest g.lives wide e.place inside j.linked l'.next.now l'.prev.now j.cut row' (rank_at mg row e.place (next_at l e.place)) j.row_is g.row_long
 
-module _ {rk mg : ℕ → ℕ → ℕ} {given row next prev heap : List ℕ} {len : ℕ} (d : Draining rk mg given row next prev heap len) where
-  pub drain_end : len ≡ 0 → Drained rk mg given row next prev
-  drain_end z =
-      let few = d.few in
-      record {
-        lives = d.going.lives;
-        done = live_done rk mg d.going.lives (omega arith)
-            (λ i l ne. by_equal (rank_at rk row i (get_or next i 0)) no_id (λ f. f) (λ nn. let (k, h, f) = d.going.queued i l ne nn in absurd (omega arith)));
-      }
+        queued : Each no_id (length given) l'.next.now (Queued rk row' h')
+        queued =
+            each_joined g.lives wide e.place inside j.linked l'.next.now l'.prev.now j.cut (Queued rk row h) (Queued rk row' h') g.queued
+            (λ a la f.
+            let x : prev_at l' e.place ≡ a = prev_same g.lives wide e.place inside j.linked l'.next.now l'.prev.now j.cut ∙ f in
+            let w = wide in
+            subst (λ (z : ℕ). Queued rk row' h' z e.place) x (j.queued.left (λ z. omega arith)))
+            j.queued.right
+            (λ a la na nq nx qd nn.
+            let f : rank_at rk row' a (next_at l a) ≡ rank_at rk row a (next_at l a) = ap₂ rk (rest a na) (rest (next_at l a) nx) in
+            subst (λ (z : ℕ). Holds h' (entry z a)) (sym f) (j.queued.old _ (still (rank_at rk row a (next_at l a)) a la (λ x y. na y) (qd (λ z. nn (f ∙ z))))))
 
-  module _ {heap₁ : List ℕ} {r p k : ℕ} (t : Taken heap len heap₁ r p k) (hl : length heap₁ ≡ length heap) where
-    pub drain_ready : Ready row next heap₁ k p
-    drain_ready = record {
-      long = d.long ∙ sym d.row_long;
-      place = omega (arith, place_inside d.going d.few t, d.row_long);
-      fits = omega (arith, t.less, d.going.room, d.heap_long, hl);
-    }
+        going_joined : Going rk mg given row' l' h'
+        going_joined = record {
+          row_long = row_long;
+          long = s.0.1 ∙ g.long;
+          heap_long = omega (arith, g.heap_long, hl, s.2.1);
+          lives = live_merged rk mg g.lives wide e.place inside j.linked l'.next.now l'.prev.now row' j.cut j.row_is g.row_long e.merged j.ranked (λ z. omega (arith, rank_small)) after;
+          queued = queued;
+          entries = λ x y. ⊎_elim (λ z. g.entries x (t.only x z)) (λ z. subst (λ (m : ℕ). IsEntry m x) row_long z) (j.queued.only x y);
+          room = omega (arith, g.room, t.less, grew, fewer);
+        }
 
-    module _ {row' next' prev' heap' : List ℕ} {len' : ℕ} (x : Turned rk mg row next prev heap₁ k r p row' next' prev' heap' len') where
-      pub drain_less : len' + 2 * links no_id (length given) next' < len + 2 * links no_id (length given) next
-      drain_less = turned_less d.going d.few t x d.row_long
+      -- a turn keeps the run on its way, and brings it on
+      module _ (x : Turned rk mg row l h₁ e row' l' h') where
+        pub turn_going : Going rk mg given row' l' h'
+        turn_going = ⊎_elim (λ y. rw (y.row_is, y.links_is, y.heap_is) (going_dropped y.stale)) going_joined x
 
-      pub drain_turn : length row' ≡ length row → length next' ≡ length next → length heap' ≡ length heap₁ → Draining rk mg given row' next' prev' heap' len'
-      drain_turn lr ln lh = record {
-        going = turned_going d.going d.few t x d.row_long;
-        few = d.few;
-        row_long = lr ∙ d.row_long;
-        long = ln ∙ d.long;
-        heap_long = omega (arith, d.heap_long);
-      }
+        pub turn_less : h'.len + 2 * links no_id (length given) l'.next.now < h.len + 2 * links no_id (length given) l.next.now
+        turn_less =
+            ⊎_elim (λ y. omega (arith, ap (λ (z : Heap). z.len) y.heap_is, t.less, ap (λ (z : Links). links no_id (length given) z.next.now) y.links_is))
+            (λ j. omega (arith, t.less, grew j, fewer j)) x
 
 -- ---- the beginning and the end
 
-pub started : {rk : ℕ → ℕ → ℕ} (mg : ℕ → ℕ → ℕ) {row next prev heap : List ℕ} {len : ℕ} → 2 ≤ length row → length row ≤ most_row → length next ≡ length row → 2 * length row ≤ length heap
-    → Fresh no_id no_id (length row) next prev → Seeded rk row heap len → Start rk mg row next prev heap len
-started {rk} mg {row} {next} {prev} {heap} {len} two few long hl f s = record {
-  few = few;
+pub started : {rk : ℕ → ℕ → ℕ} (mg : ℕ → ℕ → ℕ) {row : List ℕ} {l : Links} {h : Heap} → 2 ≤ length row → length l.next.now ≡ length row → 2 * length row ≤ length h.words.now
+    → Fresh no_id no_id (length row) l.next.now l.prev.now → Seeded rk row h → Going rk mg row row l h
+started {rk} mg {row} {l} {h} two long hl f s = record {
+  row_long = refl;
   long = long;
   heap_long = hl;
-  going = record {
-    lives = live_start (look_by rk mg) row next prev two f;
-    queued = λ i l ne. by_equal (i + 1) (length row) (λ e. absurd (ne (f.last i e)))
-        (λ nn. let h : i + 1 < length row = omega arith in subst (Queued rk row heap len i) (sym (f.nexts i h)) (s.queued i h));
-    entries = s.entries;
-    room = omega (arith, s.bound, links_le no_id (length row) next);
-  };
+  lives = live_start (look_by rk mg) row l.next.now l.prev.now two f;
+  queued = λ i li ne. by_equal (i + 1) (length row) (λ e. absurd (ne (f.last i e)))
+      (λ nn. let k : i + 1 < length row = omega arith in subst (Queued rk row h i) (sym (f.nexts i k)) (s.queued i k));
+  entries = s.entries;
+  room = omega (arith, s.bound, links_le no_id (length row) l.next.now);
+}
+
+pub ended : {rk mg : ℕ → ℕ → ℕ} {given row : List ℕ} {l : Links} {h : Heap} → Going rk mg given row l h → h.len ≡ 0 → Drained rk mg given row l
+ended {rk} {mg} {given} {row} {l} {h} g z = record {
+  lives = g.lives;
+  done = live_done rk mg g.lives (omega (arith, g.long, l.few))
+      (λ i li ne. by_equal (rank_at rk row i (next_at l i)) no_id (λ f. f) (λ nn. let (k, m, f) = g.queued i li ne nn in absurd (omega arith)));
 }
 
 -- the row at the end, on either path: the answer is at the front, and none behind it

@@ -6,6 +6,7 @@ use Prim.Native.Nat.{ℕ, zero, suc, ◌+◌, ◌-◌, ◌/◌, ◌^◌, ◌≤�
 use native.Mathlib.Omega.{arith}
 use lib.ListN.{length, get_or, set, length-set}
 use lib.Seq.{get_or-set_same, get_or-set_other}
+use Rattle.std.specs.List.{SwappedAt}
 use Rattle.bpe.specs.Look.{entry}
 use Rattle.bpe.specs.Links.{Past}
 use Rattle.bpe.specs.Heap.{Child, Ordered, Member, Up, Down, Sifted, Pushed, Taken}
@@ -19,12 +20,12 @@ pub record Swapped (h h' : List ℕ) (a b : ℕ) : Type 0 where
   pub second : get_or h' b 0 ≡ get_or h a 0
   pub rest : (i : ℕ) → (i ≡ a → ⊥) → (i ≡ b → ⊥) → get_or h' i 0 ≡ get_or h i 0
 
-pub swapped : (h : List ℕ) (a b : ℕ) → a < length h → b < length h → (a ≡ b → ⊥) → Swapped h (set (set h a (get_or h b 0)) b (get_or h a 0)) a b
-swapped h a b la lb n = record {
-  first = get_or-set_other (set h a (get_or h b 0)) b a (get_or h a 0) 0 n ∙ get_or-set_same h a (get_or h b 0) 0 la;
-  second = get_or-set_same (set h a (get_or h b 0)) b (get_or h a 0) 0 (simp length-set lb);
-  rest = λ i na nb. get_or-set_other (set h a (get_or h b 0)) b i (get_or h a 0) 0 nb ∙ get_or-set_other h a i (get_or h b 0) 0 na;
-}
+-- what the library's `swap` says
+pub swapped : (h h' : List ℕ) (a b : ℕ) → SwappedAt h h' a b → Swapped h h' a b
+swapped h h' a b s = record { first = s.0 0; second = s.1 0; rest = λ i na nb. s.2 i 0 na nb }
+
+pub swapped_up : (h h' : List ℕ) (a b : ℕ) → SwappedAt h h' b a → Swapped h h' a b
+swapped_up h h' a b s = record { first = s.1 0; second = s.0 0; rest = λ i na nb. s.2 i 0 nb na }
 
 module _ {h h' : List ℕ} {a b : ℕ} (s : Swapped h h' a b) where
   swapped_back : Swapped h' h a b
@@ -112,16 +113,13 @@ pub record Kept (h : List ℕ) (len : ℕ) (h' : List ℕ) : Type 0 where
   pub back : (e : ℕ) → Member h' len e → Member h len e
   pub past : Past len h h'
 
-pub kept_swap : {h h' : List ℕ} (len a b : ℕ) → Kept h len h' → a < len → b < len → a < length h' → b < length h' → (a ≡ b → ⊥)
-    → Kept h len (set (set h' a (get_or h' b 0)) b (get_or h' a 0))
-kept_swap {h} {h'} len a b k la lb ma mb n =
-    let s = swapped h' a b ma mb n in
-    record {
-      long = simp length-set k.long;
-      to = λ e m. member_swap s len la lb e (k.to e m);
-      back = λ e m. k.back e (member_swap (swapped_back s) len la lb e m);
-      past = λ i l. past_swap s len la lb i l ∙ k.past i l;
-    }
+pub kept_swap : {h h' h'' : List ℕ} {len a b : ℕ} → Kept h len h' → Swapped h' h'' a b → a < len → b < len → length h'' ≡ length h' → Kept h len h''
+kept_swap {h} {h'} {h''} {len} {a} {b} k s la lb l = record {
+  long = l ∙ k.long;
+  to = λ e m. member_swap s len la lb e (k.to e m);
+  back = λ e m. k.back e (member_swap (swapped_back s) len la lb e m);
+  past = λ i m. past_swap s len la lb i m ∙ k.past i m;
+}
 
 -- ---- the lesser child
 

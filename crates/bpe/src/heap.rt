@@ -19,6 +19,7 @@ impl From<Entry> for u64 {
     }
 }
 
+// `as` cuts the word, which is meant.
 impl From<u64> for Entry {
     ghost from_gives = { λ w e. (e.merged ≡ w / 2 ^ 32) × (e.place ≡ w % 2 ^ 32) };
 
@@ -41,7 +42,7 @@ pub struct Heap<'a> {
 
 impl<'a> Heap<'a> {
     pub fn new(words: &'a mut [u64]) -> Heap<'a>
-        ensures row { Stays words.entry result.words }
+        ensures words { Stays words.entry result.words }
         ensures len { result.len ≡ 0 }
     {
         Heap { words, len: 0 }
@@ -49,7 +50,7 @@ impl<'a> Heap<'a> {
 
     pub fn push(&mut self, entry: Entry)
         requires { self.old.len < length self.old.words.now }
-        ensures row { Stays self.old.words self.new.words }
+        ensures words { Stays self.old.words self.new.words }
         ensures pushed { Pushed self.old.words.now self.old.len (entry_of entry.merged entry.place) self.new.words.now self.new.len }
     {
         let at = self.len;
@@ -60,7 +61,7 @@ impl<'a> Heap<'a> {
 
     // The least entry is taken out, if there is one.
     pub fn pop(&mut self) -> Option<Entry>
-        ensures row { Stays self.old.words self.new.words }
+        ensures words { Stays self.old.words self.new.words }
         ensures took { Took self.old.words.now self.old.len self.new.words.now self.new.len result }
     {
         if self.len == 0 {
@@ -84,13 +85,10 @@ fn sift_up(heap: &mut [u64], from: usize)
     let mut at = from;
     while 0 < at {
         let parent = (at - 1) / 2;
-        let above = heap[parent];
-        let word = heap[at];
-        if above <= word {
+        if heap[parent] <= heap[at] {
             break;
         }
-        heap[at] = above;
-        heap[parent] = word;
+        heap.swap(parent, at);
         at = parent;
     }
 }
@@ -102,10 +100,7 @@ fn least_child(heap: &[u64], len: usize, at: usize) -> usize
 {
     let left = 2 * at + 1;
     let right = left + 1;
-    if len <= right {
-        return left;
-    }
-    if heap[right] < heap[left] {
+    if right < len && heap[right] < heap[left] {
         right
     } else {
         left
@@ -120,13 +115,10 @@ fn sift_down(heap: &mut [u64], len: usize)
     let mut at = 0;
     while at < len / 2 {
         let child = least_child(heap, len, at);
-        let below = heap[child];
-        let word = heap[at];
-        if word <= below {
+        if heap[at] <= heap[child] {
             break;
         }
-        heap[at] = below;
-        heap[child] = word;
+        heap.swap(at, child);
         at = child;
     }
 }

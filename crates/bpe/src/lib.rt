@@ -29,7 +29,8 @@ fn unfit(slots: usize, n: usize, next: usize, prev: usize, heap: usize) -> bool
     !pairs::shaped(slots) || n > SMALL_MERGE_MAX && (next < n || prev < n || heap / 2 < n)
 }
 
-// Merges a row of ids by the path that its length takes.
+// Merges a row of ids by the path that its length takes. The table and each row of scratch stay parameters of their own, here and below: C lends each by
+// itself, `MergesRow` says of each what it holds at the end, and a struct of a `&` and a `&mut` would be taken apart at every call.
 fn merge_row(
     slots: &[u64],
     row: &mut [u32],
@@ -77,7 +78,7 @@ pub fn bpe_merge_symbols_by_rank(
     Ok(merge_row(slots, row, next, prev, heap))
 }
 
-// The place of the first byte whose id is too large.
+// The place of the first byte whose id is too large. It is not `token::first_too_large`: that reads a row, and the ids of the bytes stand in none yet.
 fn first_large_byte(map: &[u32], bytes: &[u8]) -> Option<usize>
     requires { length map.now ≡ map_length }
     ensures { result ≡ index_in (through map.now bytes.now) (first_too_large (through map.now bytes.now)) }

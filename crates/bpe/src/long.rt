@@ -1,11 +1,10 @@
 // Rows above 32 ids: links in two lent rows, and a heap of entries in a third.
-ghost use Rattle.std.specs.Prelude.{◌≡◌, ◌++◌, ◌*◌, ◌≤◌, ◌<◌, length};
-ghost use Rattle.token.specs.Limits.{no_id, most_row};
+ghost use Rattle.std.specs.Prelude.{◌≡◌, ◌*◌, ◌≤◌, ◌<◌, length};
+ghost use Rattle.token.specs.Limits.{most_row};
 ghost use Rattle.pairs.specs.Rank.{rank_of};
-ghost use Rattle.bpe.specs.Calls.{zeroed};
 ghost use Rattle.bpe.specs.Look.{look_in};
-ghost use Rattle.bpe.specs.Links.{Rises, Stays, Compacted};
-ghost use Rattle.bpe.specs.Long.{Room, Offered, Requeued, Ready, Turned, Start, Drained, Seeded, Cleared, MergedWith};
+ghost use Rattle.bpe.specs.Links.{Stays};
+ghost use Rattle.bpe.specs.Long.{Room, Offered, Requeued, Ready, Turned, Going, Drained, Seeded, Stay, MergedWith};
 
 use super::heap::{Entry, Heap};
 use super::links::{self, Links};
@@ -15,23 +14,20 @@ use token::TokenId;
 fn offer(slots: &[u64], row: &[u32], heap: &mut Heap, left: usize, right: usize)
     requires { (length row.now ≤ most_row) × (left < length row.now) × (right < length row.now) × (heap.old.len < length heap.old.words.now) }
     ensures words { Stays heap.old.words heap.new.words }
-    ensures offered { Offered (rank_of slots.now) row.now heap.old.words.now heap.old.len left right heap.new.words.now heap.new.len }
+    ensures offered { Offered (rank_of slots.now) row.now heap.old left right heap.new }
 {
     let merged = pairs::rank_or_none(slots, row[left], row[right]);
     if merged != TokenId::NONE {
-        heap.push(Entry {
-            merged,
-            place: left as u32,
-        });
+        let place = left as u32;
+        heap.push(Entry { merged, place });
     }
 }
 
 // Queues the pairs that the place `at` is in now.
 fn requeue(slots: &[u64], row: &[u32], links: &Links, heap: &mut Heap, at: usize)
-    requires { Ready row.now links.now.next.now heap.old.words.now heap.old.len at }
+    requires { Ready row.now links.now heap.old at }
     ensures words { Stays heap.old.words heap.new.words }
-    ensures requeued { Requeued (rank_of slots.now) row.now links.now.next.now links.now.prev.now heap.old.words.now heap.old.len at
-        heap.new.words.now heap.new.len }
+    ensures requeued { Requeued (rank_of slots.now) row.now links.now heap.old at heap.new }
 {
     if let Some(left) = links.prev_of(at) {
         offer(slots, row, heap, left, at);
@@ -43,10 +39,9 @@ fn requeue(slots: &[u64], row: &[u32], links: &Links, heap: &mut Heap, at: usize
 
 // One popped entry: it is dropped if it is stale, and its pair is merged if not.
 fn turn(slots: &[u64], row: &mut [u32], links: &mut Links, heap: &mut Heap, entry: Entry)
-    requires { Ready row.old links.old.next.now heap.old.words.now heap.old.len entry.place }
-    ensures rows { Stays links.old.next links.new.next × Stays links.old.prev links.new.prev × Stays heap.old.words heap.new.words }
-    ensures turned { Turned (rank_of slots.now) (rank_of slots.now) row.old links.old.next.now links.old.prev.now heap.old.words.now heap.old.len
-        entry.merged entry.place row.new links.new.next.now links.new.prev.now heap.new.words.now heap.new.len }
+    requires { Ready row.old links.old heap.old entry.place }
+    ensures rows { Stay links.old heap.old links.new heap.new }
+    ensures turned { Turned (rank_of slots.now) (rank_of slots.now) row.old links.old heap.old entry row.new links.new heap.new }
 {
     let at = entry.place as usize;
     let Some(right) = links.next_of(at) else {
@@ -60,11 +55,11 @@ fn turn(slots: &[u64], row: &mut [u32], links: &mut Links, heap: &mut Heap, entr
     requeue(slots, row, links, heap, at);
 }
 
-// Merges until the heap is empty.
+// Merges until the heap is empty. A rule of the project has `let .. else` leave the run.
 fn drain(slots: &[u64], row: &mut [u32], links: &mut Links, heap: &mut Heap)
-    requires { Start (rank_of slots.now) (rank_of slots.now) row.old links.old.next.now links.old.prev.now heap.old.words.now heap.old.len }
-    ensures rows { Stays links.old.next links.new.next × Stays links.old.prev links.new.prev × Stays heap.old.words heap.new.words }
-    ensures drained { Drained (rank_of slots.now) (rank_of slots.now) row.old row.new links.new.next.now links.new.prev.now }
+    requires { Going (rank_of slots.now) (rank_of slots.now) row.old row.old links.old heap.old }
+    ensures rows { Stay links.old heap.old links.new heap.new }
+    ensures drained { Drained (rank_of slots.now) (rank_of slots.now) row.old row.new links.new }
 {
     loop {
         let Some(entry) = heap.pop() else {
@@ -78,7 +73,7 @@ fn drain(slots: &[u64], row: &mut [u32], links: &mut Links, heap: &mut Heap)
 fn seed(slots: &[u64], row: &[u32], heap: &mut Heap)
     requires { (2 ≤ length row.now) × (length row.now ≤ most_row) × (2 * length row.now ≤ length heap.old.words.now) × (heap.old.len ≡ 0) }
     ensures words { Stays heap.old.words heap.new.words }
-    ensures seeded { Seeded (rank_of slots.now) row.now heap.new.words.now heap.new.len }
+    ensures seeded { Seeded (rank_of slots.now) row.now heap.new }
 {
     for i in 1..row.len() {
         offer(slots, row, heap, i - 1, i);

@@ -33,7 +33,8 @@ pub struct Pair {
 }
 
 impl SmallLinks {
-    // Those of a row that is not merged yet.
+    // Those of a row that is not merged yet. It is not `Links::new`: these are arrays of bytes with ranks beside them, by a rule of the project, and are
+    // filled in one pass. Casts stay `as`: a place of 32 fits a byte, and usize has no From to u8.
     fn of(slots: &[u64], row: &[u32]) -> SmallLinks
         requires { (2 ≤ length row.now) × (length row.now ≤ most_small) }
         ensures { Linked8 (rank_of slots.now) row.now result.next result.prev result.ranks }
@@ -122,7 +123,8 @@ fn least(ranks: &[u32; 32], n: usize) -> Option<Entry>
     })
 }
 
-// The rank of the pair of the places `a` and `b`, none where `b` is no place.
+// The rank of the pair of the places `a` and `b`, none where `b` is no place. It stays a number: the ranks are an array of plain numbers by a rule of the
+// project, and none is the greatest.
 fn rank_between(slots: &[u64], row: &[u32], a: usize, b: usize) -> u32
     requires { a < length row.now }
     ensures { Between (rank_of slots.now) row.now a b result }

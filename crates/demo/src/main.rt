@@ -27,7 +27,8 @@ fn main(rt: HostRuntime) -> Result<()> {
     Ok(())
 }
 
-// Reads until the bytes are full or the input ends. How many were read comes back.
+// Reads until the bytes are full or the input ends. How many were read comes back. The reader says how far each turn goes, so no `for` counts it, and
+// the library's reading to the end allocates.
 fn read_full(rt: &impl Input, bytes: &mut [u8]) -> io::Result<usize>
     ensures { IfOk result (λ n. n ≤ length bytes.new) }
 {

@@ -31,6 +31,7 @@ impl TokenId {
     // the most entries of a vocabulary
     pub const VOCAB_MAX: usize = 2097152;
 
+    // A rule of the project has a constructor beside the constants, so it is no From.
     pub fn new(value: u32) -> Self
         ensures { result.0 ≡ value }
     {

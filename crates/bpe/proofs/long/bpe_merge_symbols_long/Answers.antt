@@ -8,7 +8,7 @@ use Rattle.bpe.proofs.Drains.{started, answered}
 use Rattle.bpe.proofs.long.bpe_merge_symbols_long.Goals as goal
 
 pub drain-requires : goal.drain-requires
-drain-requires c = started (rank_of c.args.slots.now) c.requires.some c.requires.few (search rules) (search rules) (search rules) c.seed.ensures.seeded
+drain-requires c = started (rank_of c.args.slots.now) c.requires.some (search rules) (search rules) (search rules) c.seed.ensures.seeded
 
 pub returns : goal.returns
 returns c =

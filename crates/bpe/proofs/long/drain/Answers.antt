@@ -1,24 +1,16 @@
 -- The invariant: the run is on its way. The measure: what is queued, and twice the links.
 use borrow.Author.Rules.{rules}
-use Rattle.bpe.proofs.Drains.{drain_end, drain_ready, drain_turn, drain_less}
+use Rattle.bpe.proofs.Drains.{turn_ready, turn_going, turn_less, ended}
 use Rattle.bpe.proofs.long.drain.Goals as goal
 
 pub turn-requires : goal.turn-requires
-turn-requires c = drain_ready c.loop-entry.invariant.3 c.in-Some.ensures.took c.pop.ensures.row.1
+turn-requires c = turn_ready c.loop-entry.invariant.1 c.pop.new.self c.in-Some.entry c.in-Some.ensures.took c.pop.ensures.words.1
 
 pub loop-entry-smaller : goal.loop-entry-smaller
-loop-entry-smaller c = drain_less c.loop-entry.invariant.3 c.in-Some.ensures.took c.pop.ensures.row.1 c.turn.ensures.turned
+loop-entry-smaller c = turn_less c.loop-entry.invariant.1 c.pop.new.self c.in-Some.entry c.in-Some.ensures.took c.pop.ensures.words.1 c.turn.ensures.rows c.turn.ensures.turned
 
 pub loop-entry-preserved : goal.loop-entry-preserved
-loop-entry-preserved c =
-    let i = c.loop-entry.invariant in
-    let t = c.turn.ensures in
-    let r = t.rows in (
-      search rules,
-      search rules,
-      search rules,
-      drain_turn i.3 c.in-Some.ensures.took c.pop.ensures.row.1 t.turned c.turn.auto.row r.0.1 r.2.1,
-    )
+loop-entry-preserved c = (search rules, turn_going c.loop-entry.invariant.1 c.pop.new.self c.in-Some.entry c.in-Some.ensures.took c.pop.ensures.words.1 c.turn.ensures.rows c.turn.ensures.turned)
 
 pub returns-clause-drained : goal.returns-clause-drained
-returns-clause-drained c = drain_end c.loop-entry.invariant.3 c.in_default.ensures.took.0
+returns-clause-drained c = ended c.loop-entry.invariant.1 c.in_default.ensures.took.0
