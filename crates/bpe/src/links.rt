@@ -1,4 +1,4 @@
-// The places of a row, linked both ways in two lent rows.
+// The places of a row, linked both ways in two lent rows, and what both paths do at the end.
 ghost use Rattle.std.specs.Prelude.{◌≡◌, List, ℕ, ◌≤◌, ◌<◌, length, get_or};
 ghost use Rattle.token.specs.Limits.{no_id, most_row};
 ghost use Rattle.bpe.specs.Links.{Rises, Backs, Fresh, IsPlace, Cut, Stays, Climbs, Reads, Compacted};
@@ -47,7 +47,8 @@ impl<'a> Links<'a> {
         place_of(self.prev[place])
     }
 
-    // Takes the place `right`, which is next to `at`, out of the links.
+    // Takes the place `right`, which is next to `at`, out of the links. `SmallLinks::join` does so with what it read of its arrays before they were copied
+    // to it: one function for both would read them again, where a copy waits for stores, or take what was read, and be no plainer.
     pub fn unlink(&mut self, at: usize, right: usize)
         requires { (at < right) × (right < length self.old.next.now) }
         ensures rows { Stays self.old.next self.new.next × Stays self.old.prev self.new.prev }
@@ -78,7 +79,8 @@ pub fn compact<F: Fn(usize) -> Option<usize>>(row: &mut [u32], next: F) -> usize
     requires some { 0 < length row.old }
     requires calls { (i : ℕ) → i < length row.old → F.pre next i }
     requires climbs { Climbs (F.post next) (length row.old) }
-    ensures { (end : ℕ) (links : List ℕ) → length row.old ≤ end → Reads (F.post next) end (length row.old) links → Compacted end row.old links row.new result }
+    ensures { (end : ℕ) (links : List ℕ) → length row.old ≤ end → Reads (F.post next) end (length row.old) links
+        → Compacted end row.old links row.new result }
 {
     let mut count = 0;
     let mut at = 0;

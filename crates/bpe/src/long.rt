@@ -7,7 +7,7 @@ ghost use Rattle.bpe.specs.Links.{Stays};
 ghost use Rattle.bpe.specs.Long.{Room, Offered, Requeued, Ready, Turned, Going, Drained, Seeded, Stay, MergedWith};
 
 use super::heap::{Entry, Heap};
-use super::links::{self, Links};
+use super::links::{Links, compact};
 use token::TokenId;
 
 // Queues the pair of the places `left` and `right`, if it has a rule.
@@ -97,7 +97,7 @@ pub fn bpe_merge_symbols_long(
     let mut queue = Heap::new(&mut heap[..2 * n]);
     seed(slots, row, &mut queue);
     drain(slots, row, &mut links, &mut queue);
-    let count = links::compact(row, |place| links.next_of(place));
+    let count = compact(row, |place| links.next_of(place));
     next[..n].fill(0);
     prev[..n].fill(0);
     heap[..2 * n].fill(0);
