@@ -31,7 +31,7 @@ impl From<u64> for Entry {
     }
 }
 
-// The first words of a lent row, so many as the heap has entries.
+// The first words of a lent row, so many as the heap has entries. The library's heap allocates, and the project has no heap.
 #[derive(Drop)]
 pub struct Heap<'a> {
     words: &'a mut [u64],

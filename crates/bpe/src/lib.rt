@@ -26,11 +26,12 @@ pub const BYTE_MAP_LEN: usize = 256;
 fn unfit(slots: usize, n: usize, next: usize, prev: usize, heap: usize) -> bool
     ensures { result ≡ is_unfit slots n next prev heap }
 {
-    !pairs::shaped(slots) || n > SMALL_MERGE_MAX && (next < n || prev < n || heap / 2 < n)
+    !pairs::shaped(slots) || (n > SMALL_MERGE_MAX && (next < n || prev < n || heap / 2 < n))
 }
 
-// Merges a row of ids by the path that its length takes. The table and each row of scratch stay parameters of their own, here and below: C lends each by
-// itself, `MergesRow` says of each what it holds at the end, and a struct of a `&` and a `&mut` would be taken apart at every call.
+// Merges a row of ids by the path that its length takes. The table and each row of scratch stay parameters of their own: the public calls lend each by itself,
+// and `MergesRow` says of each what it holds at the end. Table and row stay two below here too: one is only read, and together they would be taken apart at
+// every call.
 fn merge_row(
     slots: &[u64],
     row: &mut [u32],
@@ -78,7 +79,8 @@ pub fn bpe_merge_symbols_by_rank(
     Ok(merge_row(slots, row, next, prev, heap))
 }
 
-// The place of the first byte whose id is too large. It is not `token::first_too_large`: that reads a row, and the ids of the bytes stand in none yet.
+// The place of the first byte whose id is too large. It is not `token::first_too_large`: that reads a
+// row, and the ids of the bytes may stand in none before they are tested, since `MergesBytes` keeps the row on a refusal.
 fn first_large_byte(map: &[u32], bytes: &[u8]) -> Option<usize>
     requires { length map.now ≡ map_length }
     ensures { result ≡ index_in (through map.now bytes.now) (first_too_large (through map.now bytes.now)) }

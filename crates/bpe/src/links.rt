@@ -5,7 +5,8 @@ ghost use Rattle.bpe.specs.Links.{Rises, Backs, Fresh, IsPlace, Cut, Stays, Clim
 
 use token::TokenId;
 
-// Each place has the number of its next and of its prev, or none. A next is past its place.
+// Each place has the number of its next and of its prev, or none. A next is past its place. The project has no heap, so places are numbers in lent rows. That the
+// struct still holds the same rows (`Stays`) is said at each method, here and of the heap: the check carries it in no other way.
 #[derive(Drop)]
 pub struct Links<'a> {
     next: &'a mut [u32],

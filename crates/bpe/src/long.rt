@@ -6,11 +6,12 @@ ghost use Rattle.bpe.specs.Look.{look_in};
 ghost use Rattle.bpe.specs.Links.{Stays};
 ghost use Rattle.bpe.specs.Long.{Room, Offered, Requeued, Ready, Turned, Going, Drained, Seeded, Stay, MergedWith};
 
-use super::heap::{Entry, Heap};
-use super::links::{Links, compact};
+use crate::heap::{Entry, Heap};
+use crate::links::{Links, compact};
 use token::TokenId;
 
-// Queues the pair of the places `left` and `right`, if it has a rule.
+// Queues the pair of the places `left` and `right`, if it has a rule. Here and in `turn` a rank is a number with none among them: `Offered` and `Turned` speak
+// of `rank_of`, and an entry holds it so. Casts between u32 and usize stay `as`: there is no From.
 fn offer(slots: &[u64], row: &[u32], heap: &mut Heap, left: usize, right: usize)
     requires { (length row.now ≤ most_row) × (left < length row.now) × (right < length row.now) × (heap.old.len < length heap.old.words.now) }
     ensures words { Stays heap.old.words heap.new.words }

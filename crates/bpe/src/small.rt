@@ -23,7 +23,8 @@ pub struct SmallLinks {
     ranks: [u32; 32],
 }
 
-// The places of a pair, the one before and the one after.
+// The places of a pair, the one before and the one after. Where there is none of these two, it is a number past the places: they come from arrays of bytes, and
+// go back there, by a rule of the project.
 #[derive(Clone, Copy)]
 pub struct Pair {
     left: usize,

@@ -7,7 +7,7 @@ ghost use Rattle.demo.specs.Limits.{most};
 use anyhow::Result;
 use std::io::{Input, Print, Read};
 use std::{array, io};
-use token::TokenId;
+use token::{Refusal, TokenId};
 
 const MOST: usize = 4096;
 
@@ -45,7 +45,7 @@ fn read_full(rt: &impl Input, bytes: &mut [u8]) -> io::Result<usize>
 }
 
 // Merges the bytes at the front of the row. Each byte is its own id.
-fn merge(bytes: &[u8], row: &mut [u32]) -> Result<(), token::Refusal>
+fn merge(bytes: &[u8], row: &mut [u32]) -> Result<(), Refusal>
     requires { (length bytes.now ≤ length row.old) × (length bytes.now ≤ most) }
 {
     let mut slots = [0; 64];

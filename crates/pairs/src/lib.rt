@@ -77,16 +77,17 @@ impl<'a> PairRankTable<'a> {
         }
     }
 
-    // What the pair is merged to. Refuses 2 and 3.
+    // What the pair is merged to: it takes itself apart and calls the plain lookup. Refuses 2 and 3.
     #[tactic(auto, using(crate::proofs::Held::holding))]
     pub fn rank(self, a: u32, b: u32) -> Result<Option<u32>, Refusal>
         ensures { says result ≡ held_rank self.entry.slots.now self.entry.mask self.entry.shift a b }
     {
-        let held = PairRankTable::checked(self.slots)?;
-        if self.mask != held.mask || self.shift != held.shift {
+        let PairRankTable { slots, mask, shift } = self;
+        let held = PairRankTable::checked(slots)?;
+        if mask != held.mask || shift != held.shift {
             return Err(Refusal::WrongShape);
         }
-        self.rank_in(a, b)
+        rank(slots, a, b)
     }
 
     // What the pair is merged to, in a table whose mask and shift are those of its slots. Refuses 3.
@@ -108,7 +109,7 @@ impl<'a> PairRankTable<'a> {
     }
 
     // The walk of a key from its home, over at most `fuel` slots.
-    // It stays a loop that breaks with its stop: a walk wraps and counts no index, and a rule of the project names that form.
+    // By a rule of the project the loop breaks with its stop as its value, which a `for` has not.
     #[tactic(auto, using(crate::proofs::Ranks::walking))]
     fn find(self, k: u64, fuel: usize) -> Stop
         requires { Fits self.slots.now self.mask self.shift }
@@ -142,7 +143,7 @@ struct Rule {
 }
 
 impl Rule {
-    // The word of a slot that has the rule.
+    // The word of a slot that has the rule. It asks for ids (`OfIds`), and `From` takes no `requires`.
     #[tactic(auto, using(crate::proofs::Bits::pack3))]
     fn packed(self) -> u64
         requires { OfIds self }

@@ -27,12 +27,3 @@ module _ (words : List ℕ) (n asked : ℕ) where
   pub made_refused : (k p : ℕ) → refuses k p ≡ required n asked → with_at_least words n asked ≡ keeping words 0 (refuses k p)
   unfolding required with_at_least
   made_refused k p e = let i = unless_refuses (over_asked n asked) _ e in rw (← i)
-
--- no count goes in, and none comes back
-pub counts_none : (words : List ℕ) (cap : ℕ) → (reset 0 words cap).count ≡ 0
-unfolding reset
-counts_none words cap = go (unfit 0 (shaped words && eqb (slots words) cap))
-  where
-    go : (v : Verdict) → (guarded v words 0 (emptied words)).count ≡ 0
-    go fine = refl
-    go (refused k p) = refl

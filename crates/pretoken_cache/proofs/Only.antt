@@ -14,7 +14,7 @@ use Rattle.pretoken_cache.specs.declared.Got.{Got}
 use Rattle.pretoken_cache.specs.declared.Got.TheVariants as got
 use Rattle.pretoken_cache.specs.Calls as calls
 use Rattle.pretoken_cache.specs.Calls.{refuses, Outcome}
-use Rattle.pretoken_cache.specs.Told.{told, tells_size, tells_view, tells_probe, tells_change, count_made, Does}
+use Rattle.pretoken_cache.specs.Told.{told, tells_size, tells_view, tells_probe, tells_change, count_after, Does}
 
 -- ---- an answer of the paper is one answer of the code
 
@@ -69,21 +69,15 @@ one_probed (Err v) (Ok None) e = cc
 one_probed (Err v) (Ok (Some w)) e = cc
 one_probed (Err v) (Err w) e = ap Err (one_refusal v w e)
 
-one_changed : (r s : Result Unit Refusal) → tells_change r ≡ tells_change s → r ≡ s
-one_changed (Ok r) (Ok s) e = refl
-one_changed (Ok r) (Err g) e = cc
-one_changed (Err f) (Ok s) e = cc
-one_changed (Err f) (Err g) e = ap Err (one_refusal f g e)
+one_changed : (n : ℕ) (r s : Result ShortPretokenCache Refusal) → tells_change r ≡ tells_change s → count_after n r ≡ count_after n s → r ≡ s
+one_changed n (Ok c) (Ok d) e i = ap Ok (one_cache c d i)
+one_changed n (Ok c) (Err g) e i = cc
+one_changed n (Err f) (Ok d) e i = cc
+one_changed n (Err f) (Err g) e i = ap Err (one_refusal f g e)
 
-one_made : (r s : Result ShortPretokenCache Refusal) → tells_change r ≡ tells_change s → count_made r ≡ count_made s → r ≡ s
-one_made (Ok c) (Ok d) e i = ap Ok (one_cache c d i)
-one_made (Ok c) (Err g) e i = cc
-one_made (Err f) (Ok d) e i = cc
-one_made (Err f) (Err g) e i = ap Err (one_refusal f g e)
-
--- an outcome leaves one answer, one count and one row of words
-one_outcome : {o : Outcome} {r s : Result Unit Refusal} {c d : ℕ} {x y : List ℕ} → Does o r c x → Does o s d y → (r ≡ s) × (c ≡ d) × (x ≡ y)
-one_outcome {o} {r} {s} d e = (one_changed r s (only d.answer e.answer), only d.counted e.counted, only d.left e.left)
+-- an outcome leaves one answer, with its count, and one row of words
+one_outcome : {o : Outcome} {n : ℕ} {r s : Result ShortPretokenCache Refusal} {x y : List ℕ} → Does o n r x → Does o n s y → (r ≡ s) × (x ≡ y)
+one_outcome {o} {n} {r} {s} d e = (one_changed n r s (only d.answer e.answer) (only d.counted e.counted), only d.left e.left)
 
 -- ---- the calls
 
@@ -100,37 +94,37 @@ pub only_ShortPretokenCache_required_capacity : (n asked : ℕ) (s t : Result �
 only_ShortPretokenCache_required_capacity n asked s t p q = one_size s t (only p q)
 
 pub only_ShortPretokenCache_with_at_least : (words : List ℕ) (n asked : ℕ) (s t : Result ShortPretokenCache Refusal) (x y : List ℕ)
-    → Does (calls.with_at_least words n asked) s (count_made s) x → Does (calls.with_at_least words n asked) t (count_made t) y → (s ≡ t) × (x ≡ y)
-only_ShortPretokenCache_with_at_least words n asked s t x y p q = (one_made s t (only p.answer q.answer) (only p.counted q.counted), only p.left q.left)
+    → Does (calls.with_at_least words n asked) 0 s x → Does (calls.with_at_least words n asked) 0 t y → (s ≡ t) × (x ≡ y)
+only_ShortPretokenCache_with_at_least words n asked s t x y p q = one_outcome p q
 
-pub only_ShortPretokenCache_clear : (cache : ShortPretokenCache) (words : List ℕ) (s t : Result Unit Refusal) (c d : ShortPretokenCache) (x y : List ℕ)
-    → Does (calls.clear cache.len words) s c.len x → Does (calls.clear cache.len words) t d.len y → (s ≡ t) × (c ≡ d) × (x ≡ y)
-only_ShortPretokenCache_clear cache words s t c d x y p q = let (e, f, g) = one_outcome p q in (e, one_cache c d f, g)
+pub only_ShortPretokenCache_clear : (cache : ShortPretokenCache) (words : List ℕ) (s t : Result ShortPretokenCache Refusal) (x y : List ℕ)
+    → Does (calls.clear cache.len words) cache.len s x → Does (calls.clear cache.len words) cache.len t y → (s ≡ t) × (x ≡ y)
+only_ShortPretokenCache_clear cache words s t x y p q = one_outcome p q
 
-pub only_ShortPretokenCache_reset_to_capacity : (cache : ShortPretokenCache) (words : List ℕ) (cap : ℕ) (s t : Result Unit Refusal) (c d : ShortPretokenCache) (x y : List ℕ)
-    → Does (calls.reset cache.len words cap) s c.len x → Does (calls.reset cache.len words cap) t d.len y → (s ≡ t) × (c ≡ d) × (x ≡ y)
-only_ShortPretokenCache_reset_to_capacity cache words cap s t c d x y p q = let (e, f, g) = one_outcome p q in (e, one_cache c d f, g)
+pub only_ShortPretokenCache_reset_to_capacity : (cache : ShortPretokenCache) (words : List ℕ) (cap : ℕ) (s t : Result ShortPretokenCache Refusal) (x y : List ℕ)
+    → Does (calls.reset cache.len words cap) cache.len s x → Does (calls.reset cache.len words cap) cache.len t y → (s ≡ t) × (x ≡ y)
+only_ShortPretokenCache_reset_to_capacity cache words cap s t x y p q = one_outcome p q
 
 pub only_ShortPretokenCache_get_or_slot : (cache : ShortPretokenCache) (words : List ℕ) (m : Name) (s t : Result Got Refusal)
     → told s ≡ calls.get cache.len words m → told t ≡ calls.get cache.len words m → s ≡ t
 only_ShortPretokenCache_get_or_slot cache words m s t p q = one_got s t (only p q)
 
-pub only_ShortPretokenCache_insert : (cache : ShortPretokenCache) (words : List ℕ) (m : Name) (v : Value) (s t : Result Unit Refusal) (c d : ShortPretokenCache) (x y : List ℕ)
-    → Does (calls.insert cache.len words m v) s c.len x → Does (calls.insert cache.len words m v) t d.len y → (s ≡ t) × (c ≡ d) × (x ≡ y)
-only_ShortPretokenCache_insert cache words m v s t c d x y p q = let (e, f, g) = one_outcome p q in (e, one_cache c d f, g)
+pub only_ShortPretokenCache_insert : (cache : ShortPretokenCache) (words : List ℕ) (m : Name) (v : Value) (s t : Result ShortPretokenCache Refusal) (x y : List ℕ)
+    → Does (calls.insert cache.len words m v) cache.len s x → Does (calls.insert cache.len words m v) cache.len t y → (s ≡ t) × (x ≡ y)
+only_ShortPretokenCache_insert cache words m v s t x y p q = one_outcome p q
 
-pub only_ShortPretokenCache_insert_at : (cache : ShortPretokenCache) (words : List ℕ) (slot : ℕ) (m : Name) (v : Value) (s t : Result Unit Refusal) (c d : ShortPretokenCache) (x y : List ℕ)
-    → Does (calls.insert_at cache.len words slot m v) s c.len x → Does (calls.insert_at cache.len words slot m v) t d.len y → (s ≡ t) × (c ≡ d) × (x ≡ y)
-only_ShortPretokenCache_insert_at cache words slot m v s t c d x y p q = let (e, f, g) = one_outcome p q in (e, one_cache c d f, g)
+pub only_ShortPretokenCache_insert_at : (cache : ShortPretokenCache) (words : List ℕ) (slot : ℕ) (m : Name) (v : Value) (s t : Result ShortPretokenCache Refusal) (x y : List ℕ)
+    → Does (calls.insert_at cache.len words slot m v) cache.len s x → Does (calls.insert_at cache.len words slot m v) cache.len t y → (s ≡ t) × (x ≡ y)
+only_ShortPretokenCache_insert_at cache words slot m v s t x y p q = one_outcome p q
 
-pub only_ShortPretokenCache_replace : (cache : ShortPretokenCache) (words : List ℕ) (m : Name) (v : Value) (s t : Result Unit Refusal) (c d : ShortPretokenCache) (x y : List ℕ)
-    → Does (calls.replace cache.len words m v) s c.len x → Does (calls.replace cache.len words m v) t d.len y → (s ≡ t) × (c ≡ d) × (x ≡ y)
-only_ShortPretokenCache_replace cache words m v s t c d x y p q = let (e, f, g) = one_outcome p q in (e, one_cache c d f, g)
+pub only_ShortPretokenCache_replace : (cache : ShortPretokenCache) (words : List ℕ) (m : Name) (v : Value) (s t : Result ShortPretokenCache Refusal) (x y : List ℕ)
+    → Does (calls.replace cache.len words m v) cache.len s x → Does (calls.replace cache.len words m v) cache.len t y → (s ≡ t) × (x ≡ y)
+only_ShortPretokenCache_replace cache words m v s t x y p q = one_outcome p q
 
 -- x and y are the lent table; the old one is lent to be read only
-pub only_ShortPretokenCache_grow : (cache : ShortPretokenCache) (words into : List ℕ) (s t : Result Unit Refusal) (c d : ShortPretokenCache) (x y : List ℕ)
-    → Does (calls.grow cache.len words into) s c.len x → Does (calls.grow cache.len words into) t d.len y → (s ≡ t) × (c ≡ d) × (x ≡ y)
-only_ShortPretokenCache_grow cache words into s t c d x y p q = let (e, f, g) = one_outcome p q in (e, one_cache c d f, g)
+pub only_ShortPretokenCache_grow : (cache : ShortPretokenCache) (words into : List ℕ) (s t : Result ShortPretokenCache Refusal) (x y : List ℕ)
+    → Does (calls.grow cache.len words into) cache.len s x → Does (calls.grow cache.len words into) cache.len t y → (s ≡ t) × (x ≡ y)
+only_ShortPretokenCache_grow cache words into s t x y p q = one_outcome p q
 
 pub only_ShortPretokenCache_probe_view : (cache : ShortPretokenCache) (words : List ℕ) (s t : Result ProbeView Refusal)
     → tells_view s ≡ calls.view cache.len words → tells_view t ≡ calls.view cache.len words → s ≡ t

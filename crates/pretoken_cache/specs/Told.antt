@@ -34,19 +34,19 @@ tells_probe (Ok None) = probed 0 0 false
 tells_probe (Ok (Some v)) = probed v.val v.ext true
 tells_probe (Err f) = refuses (number f) (place f)
 
-abbrev pub tells_change : {A : Type 0} → Result A Refusal → Answer
-tells_change (Ok r) = done
+abbrev pub tells_change : Result ShortPretokenCache Refusal → Answer
+tells_change (Ok cache) = done
 tells_change (Err f) = refuses (number f) (place f)
 
--- the count of a cache that is made: 0 where none is
-abbrev pub count_made : Result ShortPretokenCache Refusal → ℕ
-count_made (Ok cache) = cache.len
-count_made (Err f) = 0
+-- the count that a caller holds afterwards: the one that came back, or its own, n, where the call was refused
+abbrev pub count_after : ℕ → Result ShortPretokenCache Refusal → ℕ
+count_after n (Ok cache) = cache.len
+count_after n (Err f) = n
 
--- what a changing call promises: this outcome's answer, count and words; a refusal keeps the count and the words, as its outcome does
-pub record Does {A : Type 0} (o : Outcome) (r : Result A Refusal) (count : ℕ) (words : List ℕ) : Type 0 where
+-- what a changing call promises that was given the count n: this outcome's answer, count and words
+pub record Does (o : Outcome) (n : ℕ) (r : Result ShortPretokenCache Refusal) (words : List ℕ) : Type 0 where
   pub answer : tells_change r ≡ o.answer
-  pub counted : count ≡ o.count
+  pub counted : count_after n r ≡ o.count
   pub left : words ≡ o.words
 
 -- ---- what the inner functions answer

@@ -15,15 +15,15 @@ use token::{Refusal, Stop};
 // A new name, where its walk stopped: at any empty slot, or at the proposed one.
 #[tactic(auto, unfolding(crate::specs::Calls::placed, crate::specs::Table::slots))]
 fn settle(
-    cache: &mut ShortPretokenCache,
+    cache: ShortPretokenCache,
     words: &mut [u64],
     stop: Stop,
     spot: Option<usize>,
     entry: Slot,
-) -> Result<(), Refusal>
+) -> Result<ShortPretokenCache, Refusal>
     requires inside { Inside stop (slots words.old) }
-    requires few { (slots words.old ≤ most_slots) × (cache.old.len ≤ most_slots) }
-    ensures { Does (placed (right spot) cache.old.len words.old entry.name entry.value (walked stop)) result cache.new.len words.new }
+    requires few { (slots words.old ≤ most_slots) × (cache.len ≤ most_slots) }
+    ensures { Does (placed (right spot) cache.len words.old entry.name entry.value (walked stop)) cache.len result words.new }
 {
     let n = words.len() / ShortPretokenCache::WIDTH;
     if let Stop::Hit(s) = stop {
@@ -39,19 +39,19 @@ fn settle(
         return Err(Refusal::OtherSlot(s));
     }
     entry.put(words, s);
-    cache.len += 1;
-    Ok(())
+    let len = cache.len + 1;
+    Ok(ShortPretokenCache { len })
 }
 
 // A new name.
 #[tactic(auto, using(crate::proofs::Sizes::slots_most))]
 pub(crate) fn place(
-    cache: &mut ShortPretokenCache,
+    cache: ShortPretokenCache,
     words: &mut [u64],
     spot: Option<usize>,
     entry: Slot,
-) -> Result<(), Refusal>
-    ensures { Does (guarded (first_of (unfit cache.old.len (shaped words.old)) (zero_key entry.name)) words.old cache.old.len (placed (right spot) cache.old.len words.old entry.name entry.value (sought words.old entry.name))) result cache.new.len words.new }
+) -> Result<ShortPretokenCache, Refusal>
+    ensures { Does (guarded (first_of (unfit cache.len (shaped words.old)) (zero_key entry.name)) words.old cache.len (placed (right spot) cache.len words.old entry.name entry.value (sought words.old entry.name))) cache.len result words.new }
 {
     let table = cache.table(words)?;
     let stop = table.seek(Keyed::new(entry.name)?);
@@ -61,17 +61,17 @@ pub(crate) fn place(
 // A name's value, old or new.
 #[tactic(auto, using(crate::proofs::Sizes::slots_most), unfolding(crate::specs::Calls::replaced))]
 pub(crate) fn overwrite(
-    cache: &mut ShortPretokenCache,
+    cache: ShortPretokenCache,
     words: &mut [u64],
     entry: Slot,
-) -> Result<(), Refusal>
-    ensures { Does (guarded (first_of (unfit cache.old.len (shaped words.old)) (zero_key entry.name)) words.old cache.old.len (replaced cache.old.len words.old entry.name entry.value (sought words.old entry.name))) result cache.new.len words.new }
+) -> Result<ShortPretokenCache, Refusal>
+    ensures { Does (guarded (first_of (unfit cache.len (shaped words.old)) (zero_key entry.name)) words.old cache.len (replaced cache.len words.old entry.name entry.value (sought words.old entry.name))) cache.len result words.new }
 {
     let table = cache.table(words)?;
     let stop = table.seek(Keyed::new(entry.name)?);
     if let Stop::Hit(at) = stop {
         entry.put(words, at);
-        return Ok(());
+        return Ok(cache);
     }
     settle(cache, words, stop, None, entry)
 }

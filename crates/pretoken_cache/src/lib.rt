@@ -6,7 +6,7 @@ ghost use Rattle.std.specs.Prelude.{◌≡◌, ◌≤◌, IfOk, OnOk};
 ghost use Rattle.pretoken_cache.specs.Limits.{most_slots};
 ghost use Rattle.pretoken_cache.specs.Table.{shaped};
 ghost use Rattle.pretoken_cache.specs.Calls.{get, insert as inserted, insert_at as inserted_at, replace as replaced, clear as cleared, reset, with_at_least, capacity as capacity_of, required, unfit, grow as grown, view, probe};
-ghost use Rattle.pretoken_cache.specs.Told.{told, tells_size, tells_view, tells_probe, count_made, barred, Does};
+ghost use Rattle.pretoken_cache.specs.Told.{told, tells_size, tells_view, tells_probe, barred, Does};
 
 use size::Table;
 use slot::{Keyed, Slot};
@@ -32,8 +32,8 @@ pub struct Value {
     pub ext: u64,
 }
 
-// The count of a cache's entries. Its words are lent to each call. The default is the empty cache.
-#[derive(Clone, Copy, PartialEq, Eq, Default, Debug)]
+// The count of a cache's entries. Its words are lent to each call.
+#[derive(Clone, Copy, PartialEq, Eq, Debug)]
 pub struct ShortPretokenCache {
     pub len: usize,
 }
@@ -44,7 +44,7 @@ pub struct ProbeView {
     pub pair_mask: usize,
 }
 
-// What is stored under the name, or the first empty slot of its walk.
+// What is stored under the name, or the first empty slot of its walk. Neither is an error, so it is no Result.
 #[derive(Clone, Copy, PartialEq, Eq, Debug)]
 pub enum Got {
     Found(Value),
@@ -115,31 +115,29 @@ impl ShortPretokenCache {
     }
 
     // Words of exactly the required slots become an empty table. Refuses 1 and 2.
-    #[tactic(auto, using(crate::proofs::Makes::made_of, crate::proofs::Makes::made_refused, crate::proofs::Makes::counts_none))]
+    #[tactic(auto, using(crate::proofs::Makes::made_of, crate::proofs::Makes::made_refused))]
     pub fn with_at_least(words: &mut [u64], n: usize, min_slots: usize) -> Result<Self, Refusal>
-        ensures { Does (with_at_least words.old n min_slots) result (count_made result) words.new }
+        ensures { Does (with_at_least words.old n min_slots) 0 result words.new }
     {
         let cap = Self::required_capacity(n, min_slots)?;
-        let mut cache = Self::new();
-        cache.reset_to_capacity(words, cap)?;
-        Ok(cache)
+        Self::new().reset_to_capacity(words, cap)
     }
 
-    // All words and the count are zero. Refuses 1 and 2. A refusal leaves words and count as they were, here and in each call below.
+    // All words and the count are zero. Refuses 1 and 2. By a rule of the project a changing call, this one and those below, takes the count by value and
+    // hands it back; a refusal leaves the words and the caller's own count as they were.
     #[tactic(auto, unfolding(crate::specs::Calls::clear))]
-    pub fn clear(&mut self, words: &mut [u64]) -> Result<(), Refusal>
-        ensures { Does (cleared self.old.len words.old) result self.new.len words.new }
+    pub fn clear(self, words: &mut [u64]) -> Result<Self, Refusal>
+        ensures { Does (cleared self.len words.old) self.len result words.new }
     {
         self.table(words)?;
         words.fill(0);
-        *self = Self::new();
-        Ok(())
+        Ok(Self { len: 0 })
     }
 
     // The same, for words of exactly `cap` slots.
     #[tactic(auto, unfolding(crate::specs::Calls::reset, crate::specs::Calls::unfit, crate::specs::Calls::clear))]
-    pub fn reset_to_capacity(&mut self, words: &mut [u64], cap: usize) -> Result<(), Refusal>
-        ensures { Does (reset self.old.len words.old cap) result self.new.len words.new }
+    pub fn reset_to_capacity(self, words: &mut [u64], cap: usize) -> Result<Self, Refusal>
+        ensures { Does (reset self.len words.old cap) self.len result words.new }
     {
         if self.table(words)?.slots() != cap {
             return Err(Refusal::WrongShape);
@@ -162,8 +160,8 @@ impl ShortPretokenCache {
 
     // A new name goes into the first empty slot of its walk. Refuses 1, 2 and 7 to 10.
     #[tactic(auto, unfolding(crate::specs::Calls::insert))]
-    pub fn insert(&mut self, words: &mut [u64], name: Name, value: Value) -> Result<(), Refusal>
-        ensures { Does (inserted self.old.len words.old name value) result self.new.len words.new }
+    pub fn insert(self, words: &mut [u64], name: Name, value: Value) -> Result<Self, Refusal>
+        ensures { Does (inserted self.len words.old name value) self.len result words.new }
     {
         change::place(self, words, None, Slot { name, value })
     }
@@ -171,39 +169,38 @@ impl ShortPretokenCache {
     // The same, where the slot is known from `get_or_slot`. Refuses 1, 2 and 7 to 11.
     #[tactic(auto, unfolding(crate::specs::Calls::insert_at))]
     pub fn insert_at(
-        &mut self,
+        self,
         words: &mut [u64],
         slot: usize,
         name: Name,
         value: Value,
-    ) -> Result<(), Refusal>
-        ensures { Does (inserted_at self.old.len words.old slot name value) result self.new.len words.new }
+    ) -> Result<Self, Refusal>
+        ensures { Does (inserted_at self.len words.old slot name value) self.len result words.new }
     {
         change::place(self, words, Some(slot), Slot { name, value })
     }
 
     // A stored name is overwritten, another inserted. Refuses 1, 2, 7, 9 and 10.
     #[tactic(auto, unfolding(crate::specs::Calls::replace))]
-    pub fn replace(&mut self, words: &mut [u64], name: Name, value: Value) -> Result<(), Refusal>
-        ensures { Does (replaced self.old.len words.old name value) result self.new.len words.new }
+    pub fn replace(self, words: &mut [u64], name: Name, value: Value) -> Result<Self, Refusal>
+        ensures { Does (replaced self.len words.old name value) self.len result words.new }
     {
         change::overwrite(self, words, Slot { name, value })
     }
 
     // The entries go into a lent table of twice the slots, and are counted. The old table stays. Refuses 1 and 2.
     #[tactic(auto, using(crate::proofs::Grows::fits_is, crate::proofs::Sizes::shaped_as), unfolding(crate::specs::Calls::grow, crate::specs::Calls::unfit))]
-    pub fn grow(&mut self, words: &[u64], into: &mut [u64]) -> Result<(), Refusal>
-        ensures { Does (grown self.old.len words.now into.old) result self.new.len into.new }
+    pub fn grow(self, words: &[u64], into: &mut [u64]) -> Result<Self, Refusal>
+        ensures { Does (grown self.len words.now into.old) self.len result into.new }
     {
         let table = self.table(words)?;
         if Table::new(into)?.slots() != 2 * table.slots() {
             return Err(Refusal::WrongShape);
         }
         into.fill(0);
-        *self = Self {
+        Ok(Self {
             len: change::carry(table, into),
-        };
-        Ok(())
+        })
     }
 
     // Refuses 1 and 2.

@@ -11,7 +11,8 @@ use crate::slot::Keyed;
 use token::Stop;
 
 impl Table<'_> {
-    // The walk of a name, which stops at its match if it is SOUGHT, and else at the first empty slot alone.
+    // The walk of a name, which stops at its match if it is SOUGHT, and else at the first empty slot alone. A rule of the project has the loop break with
+    // its stop as its value, which a `for` has not. Each walk says that it stopped inside: a `Stop` is the pair table's too, and knows no table. `as` cuts the hash, here and below, and is no loss on 64 bits.
     #[tactic(auto, using(crate::proofs::Turns::turn_fits, crate::proofs::Turns::turn_over, crate::proofs::Turns::turn_next))]
     fn walk<const SOUGHT: bool>(self, key: Keyed) -> Stop
         ensures stops { walked result ≡ cond SOUGHT (sought self.entry.words.now key.name) (first_empty self.entry.words.now key.name.h) }
@@ -20,7 +21,7 @@ impl Table<'_> {
         let n = self.slots();
         let mut i = (key.name.h as usize) & (n - 2);
         let mut left = n / 2;
-        let stop = loop {
+        loop {
             if left == 0 {
                 break Stop::Full;
             }
@@ -40,8 +41,7 @@ impl Table<'_> {
             }
             i = (i + 2) & (n - 1);
             left -= 1;
-        };
-        stop
+        }
     }
 
     pub(crate) fn seek(self, key: Keyed) -> Stop

@@ -60,7 +60,7 @@ fn stored(rt: &impl Print, a: u32, b: u32, m: u32) -> Result<()> {
 fn size_rows(rt: &impl Print) -> io::Result<()> {
     // 33 rules: (i, 0) to 1
     let list: [u32; 99] = array::from_fn(|k| match k % 3 {
-        0 => k as u32 / 3,
+        0 => (k / 3) as u32,
         1 => 0,
         _ => 1,
     });
@@ -204,7 +204,7 @@ fn cache_rows(rt: &impl Print) -> io::Result<()> {
 // Stores so many new names, and writes what the last one gave. The names differ in their keys and share one home.
 fn last_of(rt: &impl Print, words: &mut [u64], names: u64) -> io::Result<()> {
     let mut cache = ShortPretokenCache::new();
-    let mut last = Ok(());
+    let mut last = Ok(cache);
     for key in 1..=names {
         let name = Name {
             high: 0,
@@ -212,9 +212,10 @@ fn last_of(rt: &impl Print, words: &mut [u64], names: u64) -> io::Result<()> {
             h: 7,
         };
         last = cache.insert(words, name, Value { val: key, ext: 0 });
+        cache = last.unwrap_or(cache);
     }
     match last {
-        Ok(()) => println!(rt; "done"),
+        Ok(_) => println!(rt; "done"),
         Err(why) => println!(rt; "{why}"),
     }
 }

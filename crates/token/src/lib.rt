@@ -1,4 +1,4 @@
-// Ids and the numbers that bound them, the refusals of every call, and the low word of a product.
+// Ids and the numbers that bound them, the refusals of every call, the sizes and walks of tables, and the low word of a product.
 #![tactic(auto)]
 
 ghost use Rattle.std.specs.Prelude.{◌≡◌, ◌*◌, ◌%◌, ◌^◌, nat_le, Some};
@@ -38,6 +38,7 @@ impl TokenId {
         TokenId(value)
     }
 
+    // The same holds of it.
     pub fn none() -> Self
         ensures { result.0 ≡ no_id }
     {
@@ -97,7 +98,11 @@ impl Refusal {
             Refusal::ByteMissing(byte) => usize::from(byte),
             Refusal::AlreadyStored(slot) => slot,
             Refusal::OtherSlot(slot) => slot,
-            _ => 0,
+            Refusal::CountTooLarge
+            | Refusal::WrongShape
+            | Refusal::KeyZero
+            | Refusal::LoadLimit
+            | Refusal::NoEmptySlot => 0,
         }
     }
 }
@@ -137,7 +142,7 @@ pub fn is_power_within(n: usize, least: usize, most: usize) -> bool
     n.count_ones() == 1 && least <= n && n <= most
 }
 
-// The low 64 bits of a * b, by wrapping additions.
+// The low 64 bits of a * b, by wrapping additions: a rule of the project has it made of these.
 pub fn low_product(a: u64, b: u64) -> u64
     ensures { result ≡ (a * b) % 2 ^ 64 }
 {
