@@ -78,6 +78,11 @@ module _ (look : Lookup) where
   merging_merge (suc k) row = merging_merge k (once look row) ∙ merge_once row
 
   -- a row in which no pair has a rule is its own answer
+  -- a row of no id and one of a single id stay
+  pub short_stays : (merge look [] ≡ []) × ((a : ℕ) → merge look (a ∷ []) ≡ a ∷ [])
+  unfolding merge
+  short_stays = (refl, λ a. refl)
+
   pub stuck_merge : (row : List ℕ) → Stuck look row → merge look row ≡ row
   unfolding merge
   stuck_merge row s = merging_stuck (length row) row (stuck_best look row s)

@@ -1,5 +1,5 @@
 -- Rows of the bench sheet and the limits, computed from the definitions. Assumes nothing.
-use Rattle.std.proofs.Common.{◌≡◌, refl, true, false, List, [], ◌∷◌, ℕ}
+use Rattle.std.proofs.Common.{◌≡◌, refl, true, false, List, [], ◌∷◌, ◌++◌, ℕ}
 use lib.Count.{ones, count_trailing_zeros}
 use Rattle.merging.specs.Merging.{nothing, rule}
 use Rattle.token.specs.Sizes.{power_within}
@@ -27,6 +27,11 @@ rules = 1 ∷ 2 ∷ 10 ∷ 2 ∷ 3 ∷ 9 ∷ 1 ∷ 9 ∷ 12 ∷ 10 ∷ 3 ∷ 11 
 taken : refusal_of rules 256 64 ≡ fine
 unfolding refusal_of filled walk home shift count_trailing_zeros wanted ones rules
 taken = refl
+
+-- the premises of demand 3 can be met: A with (12, 5) → 20 behind it is accepted too
+longer_taken : refusal_of (rules ++ 12 ∷ 5 ∷ 20 ∷ []) 256 64 ≡ fine
+unfolding refusal_of filled walk home shift count_trailing_zeros wanted ones rules
+longer_taken = refl
 
 looks : (ranking_of (table_of rules 64) 8 5 ≡ ranks (rule 7 7)) × (ranking_of (table_of rules 64) 5 8 ≡ ranks nothing)
 unfolding ranking_of look filled walk home shift count_trailing_zeros shaped power_within ones rules

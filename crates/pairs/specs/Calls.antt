@@ -43,7 +43,7 @@ abbrev pub after : Verdict → List ℕ → List ℕ → List ℕ
 after fine s t = t
 after (refused k p) s t = cond (ltb 3 k) t s
 
--- the code's answer as the paper's
+-- the code's answer as the table has it
 abbrev pub told : Result (Unit {0}) Refusal → Verdict
 told (Ok u) = fine
 told (Err f) = verdict f
