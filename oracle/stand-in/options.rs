@@ -1,0 +1,3 @@
+// Stands in for the module of this name: only the types are wanted.
+pub struct FastPretokenizerDispatch;
+pub struct PretokenizerType;
