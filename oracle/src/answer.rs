@@ -1,4 +1,4 @@
-// Answers the commands. What the Rust decides, the Rust decides; each place where 01 adds or changes something says "01:".
+// Answers the commands. What the Rust decides, the Rust decides; each place where the rules (docs/RULES.md) add or change something says "Rule:".
 use crate::plain::{self, ID_MAX, NONE, Name, Stop};
 use crate::rust::{self, Built, Cache, Merges, Table};
 use std::collections::{HashMap, HashSet};
@@ -119,7 +119,7 @@ fn wide(items: Vec<u32>) -> Vec<u64> {
     items.into_iter().map(u64::from).collect()
 }
 
-// 01: a number above the largest id is 3, at the first such index.
+// Rule: a number above the largest id is 3, at the first such index.
 fn too_large(row: &[u32]) -> Result<(), Refused> {
     match row.iter().position(|&id| id as u64 > ID_MAX) {
         Some(at) => Err(Refused(3, at as u64)),
@@ -278,9 +278,9 @@ impl Answerer {
 fn called(call: &str, n: &[u64], rows: &mut [Row]) -> Line<Called> {
     Ok(match (call, rows) {
         ("new", []) => Ok(rust::token(n[0] as u32).to_string()),
-        // 01: none has a name.
+        // Rule: none has a name.
         ("none", []) => Ok(NONE.to_string()),
-        // 01: an id is at most 2,097,151.
+        // Rule: an id is at most 2,097,151.
         ("fits", []) => Ok(yes(rust::token(n[0] as u32) as u64 <= ID_MAX).into()),
         ("first_too_large", [row]) => Ok(too_large(&row32(row)?).err().map_or("none".into(), |r| r.1.to_string())),
         // The next three are the layer's: the Rust has the standard library's, or none.
@@ -290,10 +290,10 @@ fn called(call: &str, n: &[u64], rows: &mut [Row]) -> Line<Called> {
         ("is_valid_utf8_byte", []) => Ok(yes(rust::is_valid_utf8_byte(n[0] as u8)).into()),
         ("from_byte_vocab", [bytes, ends, map]) => {
             let (bytes, ends) = (row8(bytes)?, row32(ends)?);
-            // 01: the map comes by value; it is answered through the lent row.
+            // Rule: the map comes by value; it is answered through the lent row.
             let (ids, called) = match byte_map(&bytes, &ends) {
                 Ok((ids, flag)) => (ids, Ok(yes(flag).to_string())),
-                // 01: a refused map is all 0.
+                // Rule: a refused map is all 0.
                 Err(refused) => (vec![0; 256], Err(refused)),
             };
             map.set(wide(ids));
@@ -304,7 +304,7 @@ fn called(call: &str, n: &[u64], rows: &mut [Row]) -> Line<Called> {
             build(&list, n[0], slots)
         }
         ("rank" | "rank_by_table", [slots]) => rank(slots, n[0] as u32, n[1] as u32).map(or_none),
-        // 01: the same as one number, none where it is refused.
+        // Rule: the same as one number, none where it is refused.
         ("rank_or_none", [slots]) => {
             let merged = rank(slots, n[0] as u32, n[1] as u32).unwrap_or(NONE);
             Ok(if merged == APART { DIFFERS.into() } else { merged.to_string() })
@@ -314,7 +314,7 @@ fn called(call: &str, n: &[u64], rows: &mut [Row]) -> Line<Called> {
             Ok(format!("{mask} {shift}"))
         }
         ("table_rank", [slots]) => {
-            // 01: a mask and shift that are not those of the slots are a wrong shape.
+            // Rule: a mask and shift that are not those of the slots are a wrong shape.
             if plain::shaped(slots.len() as u64) && (n[0], n[1]) != mask_and_shift(slots.len()) {
                 Err(Refused(2, 0))
             } else {
@@ -343,7 +343,7 @@ fn called(call: &str, n: &[u64], rows: &mut [Row]) -> Line<Called> {
             emptied(&mut cache, words)
         }),
         ("reset_to_capacity", [words]) => tabled(n[0], words).and_then(|()| {
-            // 01: the words have exactly these slots. The Rust takes other memory for another size.
+            // Rule: the words have exactly these slots. The Rust takes other memory for another size.
             if words.len() as u64 / 5 != n[1] {
                 return Err(Refused(2, 0));
             }
@@ -356,7 +356,7 @@ fn called(call: &str, n: &[u64], rows: &mut [Row]) -> Line<Called> {
             let text = match got {
                 Some(Ok((val, ext))) => format!("found {val} {ext}"),
                 Some(Err(slot)) => format!("missing {slot}"),
-                // 01: a round with neither is 10.
+                // Rule: a round with neither is 10.
                 None => return Err(Refused(10, 0)),
             };
             let third = match plain::walk(&words.items, name, true) {
@@ -384,11 +384,11 @@ fn called(call: &str, n: &[u64], rows: &mut [Row]) -> Line<Called> {
 // ---- byte map
 
 fn byte_map(bytes: &[u8], ends: &[u32]) -> Result<(Vec<u32>, bool), Refused> {
-    // 01: the count of entries has a bound.
+    // Rule: the count of entries has a bound.
     if ends.len() as u64 > plain::VOCAB_MAX {
         return Err(Refused(1, 0));
     }
-    // 01: the vocabulary is lent as bytes and ends, which may not fall; the last one is the byte count.
+    // Rule: the vocabulary is lent as bytes and ends, which may not fall; the last one is the byte count.
     if !ends.is_sorted() || ends.last().map_or(0, |&end| end as usize) != bytes.len() {
         return Err(Refused(2, 0));
     }
@@ -398,7 +398,7 @@ fn byte_map(bytes: &[u8], ends: &[u32]) -> Result<(Vec<u32>, bool), Refused> {
         entries.push(&bytes[start as usize..end as usize]);
         start = end;
     }
-    // 01: the Rust's error is number 6.
+    // Rule: the Rust's error is number 6.
     rust::byte_map(&entries).map_err(|byte| Refused(6, byte))
 }
 
@@ -406,7 +406,7 @@ fn byte_map(bytes: &[u8], ends: &[u32]) -> Result<(Vec<u32>, bool), Refused> {
 
 fn mask_and_shift(slots: usize) -> (u64, u64) {
     if !plain::shaped(slots as u64) {
-        // 01: slots that are no table. The value refuses every pair.
+        // Rule: slots that are no table. The value refuses every pair.
         return (0, 0);
     }
     (slots as u64 - 1, 64 - slots.trailing_zeros() as u64)
@@ -414,19 +414,19 @@ fn mask_and_shift(slots: usize) -> (u64, u64) {
 
 fn build(list: &[u32], vocab: u64, slots: &mut Row) -> Called {
     let rules = list.len() / 3;
-    // 01: the rules have a bound. The Rust tests the vocabulary's.
+    // Rule: the rules have a bound. The Rust tests the vocabulary's.
     if rules > plain::RULES_MAX || vocab > plain::VOCAB_MAX {
         return Err(Refused(1, 0));
     }
-    // 01: a list is a flat row, and the slots are lent.
+    // Rule: a list is a flat row, and the slots are lent.
     if !list.len().is_multiple_of(3) || slots.len() != plain::wanted(rules) {
         return Err(Refused(2, 0));
     }
-    // 01: the index is told, where the Rust builds none.
+    // Rule: the index is told, where the Rust builds none.
     too_large(list)?;
     let mut seen = HashSet::with_capacity(rules);
     let distinct = list.chunks_exact(3).all(|rule| seen.insert((rule[0], rule[1])));
-    // 01: list order decides, and a repeated pair, which no hash map has, is 4. The number of the first bad rule is the layer's.
+    // Rule: list order decides, and a repeated pair, which no hash map has, is 4. The number of the first bad rule is the layer's.
     match plain::fill(list, slots.len()) {
         Err((number, rule)) => {
             let n = slots.len();
@@ -479,11 +479,11 @@ fn rust_takes(list: &[u32], next: &[u32], n: usize, vocab: u64) -> bool {
 }
 
 fn rank(slots: &mut Row, a: u32, b: u32) -> Result<u32, Refused> {
-    // 01: a slot count that no table has is 2.
+    // Rule: a slot count that no table has is 2.
     if !plain::shaped(slots.len() as u64) {
         return Err(Refused(2, 0));
     }
-    // 01: queried numbers are tested, where the Rust does not.
+    // Rule: queried numbers are tested, where the Rust does not.
     too_large(&[a, b])?;
     let third = plain::look(&slots.items, a, b);
     let table = slots.table();
@@ -496,7 +496,7 @@ fn rank(slots: &mut Row, a: u32, b: u32) -> Result<u32, Refused> {
 
 // ---- merging
 
-// 01: a table's shape is tested, and scratch above 32 ids.
+// Rule: a table's shape is tested, and scratch above 32 ids.
 fn unfit(slots: &Row, n: usize, scratch: &[&mut Row; 3]) -> bool {
     let [next, prev, heap] = scratch;
     !plain::shaped(slots.len() as u64) || n > plain::SMALL && (next.len() < n || prev.len() < n || heap.len() < 2 * n)
@@ -504,7 +504,7 @@ fn unfit(slots: &Row, n: usize, scratch: &[&mut Row; 3]) -> bool {
 
 fn merge(slots: &mut Row, ids: &mut [u32], scratch: [&mut Row; 3], bytes: Option<&[u8]>) -> Called {
     let n = ids.len();
-    // 01: 1 to 3, in this order.
+    // Rule: 1 to 3, in this order.
     if n > plain::ROW_MAX {
         return Err(Refused(1, 0));
     }
@@ -528,10 +528,10 @@ fn merge(slots: &mut Row, ids: &mut [u32], scratch: [&mut Row; 3], bytes: Option
     if differs {
         return Ok(DIFFERS.into());
     }
-    // 01: the answer stands in front and none behind it.
+    // Rule: the answer stands in front and none behind it.
     ids[..answer.len()].copy_from_slice(&answer);
     ids[answer.len()..].fill(NONE);
-    // 01: scratch that was used ends zero.
+    // Rule: scratch that was used ends zero.
     if n > plain::SMALL {
         for (row, used) in scratch.into_iter().zip([n, n, 2 * n]) {
             let mut items = std::mem::take(&mut row.items);
@@ -543,14 +543,14 @@ fn merge(slots: &mut Row, ids: &mut [u32], scratch: [&mut Row; 3], bytes: Option
 }
 
 fn merge_bytes(slots: &mut Row, map: &[u32], bytes: &[u8], ids: &mut [u32], scratch: [&mut Row; 3]) -> Called {
-    // 01: what merging tests, with n the byte count, and the row's length and the map's.
+    // Rule: what merging tests, with n the byte count, and the row's length and the map's.
     if bytes.len() > plain::ROW_MAX || ids.len() > plain::ROW_MAX {
         return Err(Refused(1, 0));
     }
     if ids.len() != bytes.len() || map.len() != 256 || unfit(slots, bytes.len(), &scratch) {
         return Err(Refused(2, 0));
     }
-    // 01: the ids are those of a lent map. The Rust's are the bytes: with such a map its own byte entry is asked too.
+    // Rule: the ids are those of a lent map. The Rust's are the bytes: with such a map its own byte entry is asked too.
     let through: Vec<u32> = bytes.iter().map(|&b| map[b as usize]).collect();
     too_large(&through)?;
     ids.copy_from_slice(&through);
@@ -560,7 +560,7 @@ fn merge_bytes(slots: &mut Row, map: &[u32], bytes: &[u8], ids: &mut [u32], scra
 
 // ---- cache
 
-// 01: a count above its bound is 1, words that are no table 2.
+// Rule: a count above its bound is 1, words that are no table 2.
 fn tabled(count: u64, words: &Row) -> Result<(), Refused> {
     if count > plain::CACHE_MAX {
         return Err(Refused(1, 0));
@@ -575,14 +575,14 @@ fn name_of(n: &[u64]) -> Name {
     Name { high: n[0], low: n[1], h: n[2] }
 }
 
-// 01: a zero key is 7. The Rust wants none.
+// Rule: a zero key is 7. The Rust wants none.
 fn named(count: u64, words: &Row, n: &[u64]) -> Result<Name, Refused> {
     tabled(count, words)?;
     let name = name_of(n);
     if name.is_keyless() { Err(Refused(7, 0)) } else { Ok(name) }
 }
 
-// 01: the arguments have a bound.
+// Rule: the arguments have a bound.
 fn required(n: u64, min_slots: u64) -> Result<u64, Refused> {
     if n > plain::ASKED_MAX || min_slots > plain::ASKED_MAX {
         return Err(Refused(1, 0));
@@ -592,7 +592,7 @@ fn required(n: u64, min_slots: u64) -> Result<u64, Refused> {
 
 fn with_at_least(words: &mut Row, n: u64, min_slots: u64) -> Called {
     let cap = required(n, min_slots)?;
-    // 01: the words are lent, exactly as many as the Rust would take.
+    // Rule: the words are lent, exactly as many as the Rust would take.
     if words.len() as u64 != 5 * cap {
         return Err(Refused(2, 0));
     }
@@ -603,7 +603,7 @@ fn with_at_least(words: &mut Row, n: u64, min_slots: u64) -> Called {
     Ok(emptied(&mut cache, words))
 }
 
-// The words of a cache that the Rust emptied, and its count. 01: the fifth words are zero too.
+// The words of a cache that the Rust emptied, and its count. Rule: the fifth words are zero too.
 fn emptied(cache: &mut Cache, words: &mut Row) -> String {
     if !cache.is_zero() || cache.capacity() != words.len() as u64 / 5 {
         return DIFFERS.into();
@@ -621,13 +621,13 @@ fn place(call: &str, count: u64, words: &mut Row, spot: Option<u64>, name: Name,
     }
     let (at, after) = match stop {
         Stop::Hit(s) if call == "replace" => (s, count),
-        // 01: the Rust would store a second entry.
+        // Rule: the Rust would store a second entry.
         Stop::Hit(s) => return Err(Refused(8, s as u64)),
-        // 01: the Rust would grow by itself.
+        // Rule: the Rust would grow by itself.
         _ if plain::laden(slots, count) => return Err(Refused(9, 0)),
-        // 01: the Rust's walk would not end.
+        // Rule: the Rust's walk would not end.
         Stop::Full => return Err(Refused(10, 0)),
-        // 01: the Rust believes the slot that it is given.
+        // Rule: the Rust believes the slot that it is given.
         Stop::Empty(s) if spot.is_some_and(|spot| spot != s as u64) => return Err(Refused(11, s as u64)),
         Stop::Empty(s) => (s, count + 1),
     };
@@ -637,7 +637,7 @@ fn place(call: &str, count: u64, words: &mut Row, spot: Option<u64>, name: Name,
         (_, Some(slot)) => cache.insert_at(slot, name, val, ext),
         (_, None) => cache.insert(name, val, ext),
     }
-    // 01: the fifth word is h.
+    // Rule: the fifth word is h.
     let mut items = std::mem::take(&mut words.items);
     plain::put(&mut items, at, name, val, ext);
     let same = cache.holds(&items, after, name);
@@ -646,7 +646,7 @@ fn place(call: &str, count: u64, words: &mut Row, spot: Option<u64>, name: Name,
 }
 
 fn grow(words: &Row, into: &mut Row) -> Called {
-    // 01: the larger table is lent, exactly twice the slots, and within the bound.
+    // Rule: the larger table is lent, exactly twice the slots, and within the bound.
     tabled(0, into)?;
     if into.len() != 2 * words.len() {
         return Err(Refused(2, 0));
@@ -654,7 +654,7 @@ fn grow(words: &Row, into: &mut Row) -> Called {
     let (third, count) = plain::grow(&words.items);
     // Where the Rust is not asked, the layer's own growing is the answer.
     if let Some(seats) = rust::grow(&words.items) {
-        // 01: the five words go over as they are.
+        // Rule: the five words go over as they are.
         let mut items = vec![0; into.len()];
         for (new, old) in seats.iter().enumerate() {
             if let Some(old) = old {
@@ -666,12 +666,12 @@ fn grow(words: &Row, into: &mut Row) -> Called {
         }
     }
     into.set(third);
-    // 01: the count is that of the old entries, whatever count was given.
+    // Rule: the count is that of the old entries, whatever count was given.
     Ok(count.to_string())
 }
 
 fn probe(mask: u64, words: &Row, name: Name) -> Called {
-    // 01: the view is of these words.
+    // Rule: the view is of these words.
     if mask > plain::CACHE_MAX || !plain::cache_shaped(words.len()) || words.len() as u64 != 5 * (mask + 2) {
         return Err(Refused(2, 0));
     }
@@ -679,6 +679,6 @@ fn probe(mask: u64, words: &Row, name: Name) -> Called {
         return Err(Refused(7, 0));
     }
     let (val, ext, found) = Cache::of(&words.items, 0, Some(name)).probe(name);
-    // 01: a miss shows nothing, where the Rust shows the second slot's.
+    // Rule: a miss shows nothing, where the Rust shows the second slot's.
     Ok(if found { format!("{val} {ext} yes") } else { "0 0 no".into() })
 }

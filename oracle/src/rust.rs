@@ -110,13 +110,13 @@ pub struct Table {
 impl Table {
     // The slots have the shape of a table.
     pub fn new(slots: Vec<u64>, has_empty: bool) -> Table {
-        // The Rust keeps the pair of 0 and 0 in its grid, which 01 does not have: that one lookup is the layer's.
+        // The Rust keeps the pair of 0 and 0 in its grid, which the rules do not have: that one lookup is the layer's.
         let of_zeros = plain::look(&slots, 0, 0);
         let full = (!has_empty).then(|| slots.clone());
         Table { table: table_over(slots, of_zeros), full }
     }
 
-    // 01: one round at most. The Rust's walk would not end where there is neither the key nor an empty slot, so it is not asked there.
+    // Rule: one round at most. The Rust's walk would not end where there is neither the key nor an empty slot, so it is not asked there.
     pub fn rank(&self, a: u32, b: u32) -> u32 {
         if let Some(slots) = &self.full {
             let key = plain::key(a, b);
@@ -262,7 +262,7 @@ impl Drop for Cache {
     }
 }
 
-// A slot's words as the Rust's. The Rust compares keys alone, 01 a name of key and h: a slot that has the sought key under another h gets
+// A slot's words as the Rust's. The Rust compares keys alone, the rules a name of key and h: a slot that has the sought key under another h gets
 // another key here. The fifth word, which the Rust does not have, stays with the layer.
 fn entry_of(w: &[u64], sought: Option<Name>) -> [u64; 4] {
     let mut low = w[1];
@@ -315,7 +315,7 @@ impl Cache {
         entries(&mut self.cache).iter().any(|e| e[..2] == [0, 0] || e[..2] == [name.low, name.high])
     }
 
-    // What the Rust finds: the value, or the first empty slot. 01: none where the walk would not end.
+    // What the Rust finds: the value, or the first empty slot. Rule: none where the walk would not end.
     pub fn get(&mut self, name: Name) -> Option<Result<(u64, u64), u64>> {
         if !self.ends(name) {
             return None;
@@ -384,7 +384,7 @@ pub fn with_at_least(n: u64, min_slots: u64) -> Cache {
 // How many slots a table may have for keys to be sought that have given homes.
 const SOUGHT_MAX: usize = 1024;
 
-// Growing by the Rust, which hashes keys where 01 has the stored h: either the keys have these homes, or other keys that have them stand in.
+// Growing by the Rust, which hashes keys where the rules have the stored h: either the keys have these homes, or other keys that have them stand in.
 // For each slot of the larger table, the old slot whose entry is there. None where the Rust is not asked: above SOUGHT_MAX, if h is no hash.
 pub fn grow(words: &[u64]) -> Option<Vec<Option<usize>>> {
     let n = words.len() / 5;

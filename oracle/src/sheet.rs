@@ -1,4 +1,4 @@
-// The bench sheet of 01, asked of the oracle.
+// The bench sheet, asked of the oracle.
 use crate::answer::Answerer;
 
 const A: &str = "1 2 10 2 3 9 1 9 12 10 3 11 5 5 8 8 5 7";
