@@ -29,8 +29,8 @@ fn unfit(slots: usize, n: usize, next: usize, prev: usize, heap: usize) -> bool
     !pairs::shaped(slots) || (n > SMALL_MERGE_MAX && (next < n || prev < n || heap / 2 < n))
 }
 
-// Merges a row of ids by the path that its length takes. The table and each row of scratch stay parameters of their own: the public calls lend each by itself,
-// and `MergesRow` says of each what it holds at the end. Table and row stay two below here too: one is only read, and together they would be taken apart at
+// Merges a row of ids by the path that its length takes. The table and each row of scratch are parameters of their own: the public calls lend each by itself,
+// and `MergesRow` says of each what it holds at the end. Table and row are two below here too: one is only read, and together they would be taken apart at
 // every call.
 fn merge_row(
     slots: &[u64],

@@ -64,7 +64,7 @@ impl<'a> Links<'a> {
     }
 }
 
-// What a link says: a place, or none. Casts between u32 and usize stay `as`, here and above: there is no From.
+// What a link says: a place, or none. Casts between u32 and usize are by `as`, here and above: there is no From.
 fn place_of(link: u32) -> Option<usize>
     ensures { IsPlace no_id link result }
 {

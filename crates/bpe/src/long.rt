@@ -11,7 +11,7 @@ use crate::links::{Links, compact};
 use token::TokenId;
 
 // Queues the pair of the places `left` and `right`, if it has a rule. Here and in `turn` a rank is a number with none among them: `Offered` and `Turned` speak
-// of `rank_of`, and an entry holds it so. Casts between u32 and usize stay `as`: there is no From.
+// of `rank_of`, and an entry holds it so. Casts between u32 and usize are by `as`: there is no From.
 fn offer(slots: &[u64], row: &[u32], heap: &mut Heap, left: usize, right: usize)
     requires { (length row.now ≤ most_row) × (left < length row.now) × (right < length row.now) × (heap.old.len < length heap.old.words.now) }
     ensures words { Stays heap.old.words heap.new.words }

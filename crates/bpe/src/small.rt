@@ -35,7 +35,7 @@ pub struct Pair {
 
 impl SmallLinks {
     // Those of a row that is not merged yet. It is not `Links::new`: these are arrays of bytes with ranks beside them, by a rule of the project, and are
-    // filled in one pass. Casts stay `as`: a place of 32 fits a byte, and usize has no From to u8.
+    // filled in one pass. Casts are by `as`: a place of 32 fits a byte, and usize has no From to u8.
     fn of(slots: &[u64], row: &[u32]) -> SmallLinks
         requires { (2 ≤ length row.now) × (length row.now ≤ most_small) }
         ensures { Linked8 (rank_of slots.now) row.now result.next result.prev result.ranks }
@@ -124,7 +124,7 @@ fn least(ranks: &[u32; 32], n: usize) -> Option<Entry>
     })
 }
 
-// The rank of the pair of the places `a` and `b`, none where `b` is no place. It stays a number: the ranks are an array of plain numbers by a rule of the
+// The rank of the pair of the places `a` and `b`, none where `b` is no place. It is a number: the ranks are an array of plain numbers by a rule of the
 // project, and none is the greatest.
 fn rank_between(slots: &[u64], row: &[u32], a: usize, b: usize) -> u32
     requires { a < length row.now }
@@ -136,7 +136,7 @@ fn rank_between(slots: &[u64], row: &[u32], a: usize, b: usize) -> u32
     pairs::rank_or_none(slots, row[a], row[b])
 }
 
-// `at` is now before the place `after`, if that is one.
+// `at` is before the place `after` from here on, if that is one.
 fn set_prev(prev: &mut [u8; 32], n: usize, after: usize, at: usize)
     requires { (length prev.old ≡ most_small) × (n ≤ most_small) × (at < n) }
     ensures { Backed n prev.old after at prev.new }

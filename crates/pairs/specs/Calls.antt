@@ -3,6 +3,7 @@ use Rattle.std.specs.Prelude.{◌≡◌, cond, List, ℕ, ◌/◌, ◌%◌, ltb,
 use Rattle.token.specs.Limits.{top, most_entries}
 use Rattle.token.specs.Ids.{first_too_large}
 use Rattle.token.specs.declared.Refusal.{Refusal}
+pub use Rattle.token.specs.Refusals.{told}
 use Rattle.token.specs.Refusals.{number, place, Verdict, fine, refused, verdict}
 use Rattle.merging.specs.Merging.{Answer, nothing}
 use Rattle.merging.specs.Lists.{rule_of}
@@ -42,11 +43,6 @@ table_of list n = slots_of (filled list n) n
 abbrev pub after : Verdict → List ℕ → List ℕ → List ℕ
 after fine s t = t
 after (refused k p) s t = cond (ltb 3 k) t s
-
--- the code's answer as the table has it
-abbrev pub told : Result (Unit {0}) Refusal → Verdict
-told (Ok u) = fine
-told (Err f) = verdict f
 
 -- what `build` promises
 pub record Builds (list : List ℕ) (vocab : ℕ) (s : List ℕ) (r : Result (Unit {0}) Refusal) (s' : List ℕ) : Type 0 where

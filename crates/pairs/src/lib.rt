@@ -17,7 +17,7 @@ ghost use Rattle.pairs.specs.Steps.{Fits, Shifts, Fitted, Checks, OfIds, Inserts
 use token::{Refusal, Stop, TokenId};
 
 // The lent slots with their mask and shift, held as one thing.
-// No ghost field says that mask and shift are the slots': the fields stay public, and `rank` takes and refuses any others.
+// No ghost field says that mask and shift are the slots': the fields are public, and `rank` takes and refuses any others.
 #[derive(Clone, Copy, PartialEq, Eq, Debug)]
 pub struct PairRankTable<'a> {
     pub slots: &'a [u64],
@@ -177,14 +177,14 @@ fn key(a: u32, b: u32) -> u64
     (u64::from(a) << TokenId::BITS) + u64::from(b)
 }
 
-// The lowest bits of a slot. `as` stays: it is to cut the word.
+// The lowest bits of a slot. `as` cuts the word, which is meant.
 fn merged(slot: u64) -> u32
     ensures { result ≡ merged_in slot }
 {
     (slot & u64::from(TokenId::MAX)) as u32
 }
 
-// The top bits of the key's hash. `as` stays: u64 to usize has no From.
+// The top bits of the key's hash. `as`, since u64 to usize has no From.
 #[tactic(auto, unfolding(crate::specs::Key::home))]
 fn home(k: u64, shift: u32) -> usize
     requires { Shifts shift }
@@ -202,7 +202,7 @@ pub fn rank(slots: &[u64], a: u32, b: u32) -> Result<Option<u32>, Refusal>
 }
 
 // The same as one number, for merging: a pair that is refused has no rule.
-// It stays a plain number: the rows and ranks of merging hold plain numbers, and none is such a number by a rule of the project.
+// It is a plain number, since the rows and ranks of merging hold plain numbers, and none is such a number by a rule of the project.
 #[tactic(auto, unfolding(crate::specs::Rank::rank_of))]
 pub fn rank_or_none(slots: &[u64], a: u32, b: u32) -> u32
     ensures { result ≡ rank_of slots.now a b }

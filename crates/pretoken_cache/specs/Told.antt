@@ -1,6 +1,7 @@
 -- The code's answers as those of the paper, with its numbers, and what a changing call promises. Assumes nothing.
 use Rattle.std.specs.Prelude.{◌≡◌, ◌<◌, Bool, true, false, cond, List, ℕ, eqb, Option, Some, None, Result, Ok, Err}
 use Rattle.token.specs.declared.Refusal.{Refusal}
+pub use Rattle.token.specs.Refusals.{told as barred}
 use Rattle.token.specs.Refusals.{number, place, Verdict, fine, verdict}
 use Rattle.pretoken_cache.specs.declared.slot.Slot as code
 use Rattle.pretoken_cache.specs.Slot.{keyless, Slot, free, held}
@@ -56,10 +57,6 @@ abbrev pub Inside : Stop → ℕ → Type 0
 Inside (stop.Hit s) n = s < n
 Inside (stop.Empty s) n = s < n
 Inside stop.Full n = Unit {0}
-
-abbrev pub barred : {A : Type 0} → Result A Refusal → Verdict
-barred (Ok r) = fine
-barred (Err f) = verdict f
 
 -- a slot as it was read
 abbrev pub held_in : code.Slot → Slot

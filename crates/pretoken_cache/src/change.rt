@@ -1,4 +1,4 @@
-// What the changing calls do. The count and the words that are lent come apart here too: the public calls' signatures stay.
+// What the changing calls do. The count and the lent words come apart here as in the public calls.
 ghost use Rattle.std.specs.Prelude.{◌≡◌, true, ◌≤◌};
 ghost use Rattle.token.specs.Walks.{walked};
 ghost use Rattle.pretoken_cache.specs.Limits.{most_slots};

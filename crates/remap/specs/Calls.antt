@@ -2,15 +2,11 @@
 use Rattle.std.specs.Prelude.{◌≡◌, Bool, false, cond, List, ℕ, ltb, length, replicate, Result, Ok, Err}
 use Rattle.token.specs.declared.Refusal.{Refusal}
 use Rattle.token.specs.Limits.{most_entries}
+pub use Rattle.token.specs.Refusals.{told}
 use Rattle.token.specs.Refusals.{Verdict, fine, refused, verdict}
 use Rattle.remap.specs.Vocabulary.{vocabulary, misshapen}
 use Rattle.remap.specs.Map.{all_bytes, Found, nothing, found, ids_of, missing, map_of, differs}
 use Rattle.remap.specs.declared.Remapped.{Remapped}
-
--- the code's answer as the table's verdict
-abbrev pub told : {A : Type 0} → Result A Refusal → Verdict
-told (Ok x) = fine
-told (Err why) = verdict why
 
 -- where a byte of UTF-8 has no entry, the lowest such byte is named
 abbrev pub lacking : Found → Verdict

@@ -47,8 +47,8 @@ impl ByteRemapping {
         }
     }
 
-    // The map of the vocabulary, or why there is none. Bytes and ends stay two parameters, here and below: with a struct of both that has `Scannable` as its fact
-    // the check no longer knows that a byte is below 256, and the proof of `scan` did not close.
+    // The map of the vocabulary, or why there is none. Bytes and ends are two parameters, here and below: with a struct of both that has `Scannable` as its fact
+    // the check does not know that a byte is below 256, and the proof of `scan` does not close.
     #[tactic(auto, unfolding(crate::specs::Calls::verdict_of))]
     fn read(bytes: &[u8], ends: &[u32]) -> Result<Self, Refusal>
         ensures says { told result ≡ verdict_of bytes.now ends.now }
@@ -63,7 +63,7 @@ impl ByteRemapping {
         Ok(map)
     }
 
-    // Gives each byte the id of the first entry that is this byte alone. `as` from u32 to usize and back stays, here and below: there is no From.
+    // Gives each byte the id of the first entry that is this byte alone. `as` from u32 to usize and back, here and below: there is no From.
     fn scan(bytes: &[u8], ends: &[u32]) -> Self
         requires { Scannable bytes.now ends.now }
         ensures { read_all result.mapping ≡ ids bytes.now ends.now }

@@ -1,5 +1,5 @@
 -- The table of refusals: the number and the place of each. Assumes nothing.
-use Rattle.std.specs.Prelude.{ℕ}
+use Rattle.std.specs.Prelude.{ℕ, Result, Ok, Err}
 use Rattle.token.specs.declared.Refusal.{Refusal}
 use Rattle.token.specs.declared.Refusal.TheVariants.{CountTooLarge, WrongShape, IdTooLarge, PairRepeated, TooFar, ByteMissing, KeyZero, AlreadyStored, LoadLimit, NoEmptySlot, OtherSlot}
 
@@ -38,3 +38,8 @@ pub data Verdict : Type 0 where
 -- a refusal as the table has it
 abbrev pub verdict : Refusal → Verdict
 verdict f = refused (number f) (place f)
+
+-- the code's answer as the table has it
+abbrev pub told : {A : Type 0} → Result A Refusal → Verdict
+told (Ok x) = fine
+told (Err f) = verdict f

@@ -6,4 +6,4 @@ use Rattle.bpe.proofs.Outcomes.{first_through}
 use Rattle.bpe.proofs.first_large_byte.Goals as goal
 
 pub returns : goal.returns
-returns c = first_by (through c.args.map.now c.args.bytes.now) c.position.result (first_through c.args.map.now c.args.bytes.now c.position.result (search rules))
+returns c = first_by (through c.args.map.now c.args.bytes.now) _ (first_through c.args.map.now c.args.bytes.now _ (search rules))
