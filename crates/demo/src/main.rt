@@ -4,8 +4,7 @@
 ghost use Rattle.std.specs.Prelude.{◌≤◌, length, IfOk};
 ghost use Rattle.demo.specs.Limits.{most};
 
-use anyhow::Result;
-use std::io::{Input, Print, Read};
+use std::io::{ErrorKind, Input, Print, Read};
 use std::{array, io};
 use token::{Refusal, TokenId};
 
@@ -14,17 +13,16 @@ const MOST: usize = 4096;
 // The rules: he, ll, hell, hello.
 const LIST: [u32; 12] = [104, 101, 256, 108, 108, 257, 256, 257, 258, 258, 111, 259];
 
-fn main(rt: HostRuntime) -> Result<()> {
+// A read or a write that fails ends it with the error as std writes it. No input is refused: the table and the lengths are the program's own.
+fn main(rt: HostRuntime) -> io::Result<()> {
     let mut bytes = [0; MOST + 1];
     let n = read_full(&rt, &mut bytes)?;
     if n > MOST {
-        rt.println("too long")?;
-        return Ok(());
+        return rt.println("too long");
     }
     let mut row = [TokenId::NONE; MOST];
-    merge(&bytes[..n], &mut row)?;
-    write_ids(&rt, &row)?;
-    Ok(())
+    merge(&bytes[..n], &mut row).map_err(|_| ErrorKind::InvalidInput)?;
+    write_ids(&rt, &row)
 }
 
 // Reads until the bytes are full or the input ends. How many were read comes back. The reader says how far each turn goes, so no `for` counts it, and

@@ -4,10 +4,9 @@
 ghost use Rattle.std.specs.Prelude.{◌≡◌, ◌*◌, ◌≤◌, length};
 ghost use Rattle.sheet.specs.Limits.{most_given};
 
-use anyhow::Result;
 use pairs::PairRankTable;
 use pretoken_cache::{Name, ShortPretokenCache, Value};
-use std::io::Print;
+use std::io::{ErrorKind, Print};
 use std::{array, io};
 use token::{Refusal, TokenId};
 
@@ -22,30 +21,34 @@ const LONG: usize = 66;
 // List A.
 const A: [u32; 18] = [1, 2, 10, 2, 3, 9, 1, 9, 12, 10, 3, 11, 5, 5, 8, 8, 5, 7];
 
-fn main(rt: HostRuntime) -> Result<()> {
+fn main(rt: HostRuntime) -> io::Result<()> {
     table_rows(&rt)?;
     size_rows(&rt)?;
     pair_rows(&rt)?;
     short_rows(&rt)?;
     longer_lists(&rt)?;
     fives(&rt)?;
-    cache_rows(&rt)?;
-    Ok(())
+    cache_rows(&rt)
+}
+
+// No row of the sheet is refused; an error of a write prints as std writes it.
+fn refused(_why: Refusal) -> io::Error {
+    io::Error::from(ErrorKind::InvalidInput)
 }
 
 // ---- the pair table
 
 // A rule stands alone in a table of 64 slots: where, and as what word.
-fn table_rows(rt: &impl Print) -> Result<()> {
+fn table_rows(rt: &impl Print) -> io::Result<()> {
     stored(rt, 1, 2, 10)?;
     stored(rt, 0, 0, 1)?;
     stored(rt, 0, 1, 1)?;
     stored(rt, 0, 2, 1)
 }
 
-fn stored(rt: &impl Print, a: u32, b: u32, m: u32) -> Result<()> {
+fn stored(rt: &impl Print, a: u32, b: u32, m: u32) -> io::Result<()> {
     let mut slots = [0; 64];
-    pairs::build(&[a, b, m], TokenId::VOCAB_MAX, &mut slots)?;
+    pairs::build(&[a, b, m], TokenId::VOCAB_MAX, &mut slots).map_err(refused)?;
     let taken = slots
         .iter()
         .enumerate()
@@ -84,14 +87,13 @@ fn sized(rt: &impl Print, list: &[u32], rules: usize, slots: &mut [u64]) -> io::
 }
 
 // Pairs that are looked up under list A, among them the two that the Rust answers.
-fn pair_rows(rt: &impl Print) -> Result<()> {
+fn pair_rows(rt: &impl Print) -> io::Result<()> {
     let mut slots = [0; 64];
-    pairs::build(&A, TokenId::VOCAB_MAX, &mut slots)?;
+    pairs::build(&A, TokenId::VOCAB_MAX, &mut slots).map_err(refused)?;
     asked(rt, &slots, 8, 5)?;
     asked(rt, &slots, 5, 8)?;
     asked(rt, &slots, 0, 2097157)?;
-    asked(rt, &slots, 4194303, 2097151)?;
-    Ok(())
+    asked(rt, &slots, 4194303, 2097151)
 }
 
 fn asked(rt: &impl Print, slots: &[u64], a: u32, b: u32) -> io::Result<()> {
@@ -105,7 +107,7 @@ fn asked(rt: &impl Print, slots: &[u64], a: u32, b: u32) -> io::Result<()> {
 
 // ---- merging
 
-fn short_rows(rt: &impl Print) -> Result<()> {
+fn short_rows(rt: &impl Print) -> io::Result<()> {
     let rows: [&[u32]; 8] = [
         &[],
         &[7],
@@ -122,7 +124,7 @@ fn short_rows(rt: &impl Print) -> Result<()> {
     Ok(())
 }
 
-fn longer_lists(rt: &impl Print) -> Result<()> {
+fn longer_lists(rt: &impl Print) -> io::Result<()> {
     row_under(rt, &a_and([12, 5, 20]), "A and 12 5 to 20", &[1, 2, 3, 5])?;
     row_under(rt, &A, "A", &[1, 2, 3, 5])?;
     row_under(rt, &a_and([3, 5, 6]), "A and 3 5 to 6", &[1, 2, 3, 5])?;
@@ -138,23 +140,22 @@ fn a_and(rule: [u32; 3]) -> [u32; 21] {
     list
 }
 
-fn fives(rt: &impl Print) -> Result<()> {
+fn fives(rt: &impl Print) -> io::Result<()> {
     row_under(rt, &A, "A", &[5; 32])?;
     row_under(rt, &A, "A", &[5; MOST])
 }
 
 // The row by itself, and with fillers behind it, so that it is long.
-fn row_under(rt: &impl Print, list: &[u32], name: &str, given: &[u32]) -> Result<()> {
+fn row_under(rt: &impl Print, list: &[u32], name: &str, given: &[u32]) -> io::Result<()> {
     let mut slots = [0; 64];
-    pairs::build(list, TokenId::VOCAB_MAX, &mut slots)?;
+    pairs::build(list, TokenId::VOCAB_MAX, &mut slots).map_err(refused)?;
     print!(rt; "{name}:")?;
     ids(rt, given)?;
     print!(rt; " gives")?;
     merged(rt, &slots, given, 0)?;
     print!(rt; "; long, it gives")?;
     merged(rt, &slots, given, MOST)?;
-    println!(rt)?;
-    Ok(())
+    println!(rt)
 }
 
 // Merges up to 33 given ids with so many fillers behind them, and writes the answer up to the fillers.
