@@ -69,6 +69,29 @@ impl Table<'_> {
             },
         }
     }
+
+    // Is slot s of this name, where that is sought? Its words are read one by one, as far as the test needs them: a walk tests many slots, and takes no more of
+    // them.
+    #[tactic(auto, unfolding(crate::specs::Slot::same, crate::specs::Slot::name_at, crate::specs::Table::slots))]
+    pub(crate) fn is_of<const SOUGHT: bool>(self, s: usize, key: Keyed) -> bool
+        requires { s < slots self.words.now }
+        ensures { result ≡ (SOUGHT && same key.name (name_at self.entry.words.now s)) }
+    {
+        let words = self.words;
+        let at = ShortPretokenCache::WIDTH * s;
+        SOUGHT
+            && key.name.high == words[at]
+            && key.name.low == words[at + 1]
+            && key.name.h == words[at + 4]
+    }
+
+    // Is slot s empty?
+    pub(crate) fn is_empty(self, s: usize) -> bool
+        requires { s < slots self.words.now }
+        ensures { result ≡ keyless (name_at self.entry.words.now s) }
+    {
+        self.slot(s).is_empty()
+    }
 }
 
 impl Slot {
@@ -76,14 +99,6 @@ impl Slot {
         ensures { result ≡ keyless self.name }
     {
         self.name.is_keyless()
-    }
-
-    // Is it of this name, where that is sought?
-    #[tactic(auto, unfolding(crate::specs::Slot::same))]
-    pub(crate) fn is_of<const SOUGHT: bool>(self, key: Keyed) -> bool
-        ensures { result ≡ (SOUGHT && same key.name self.name) }
-    {
-        SOUGHT && key.name == self.name
     }
 
     #[tactic(auto, unfolding(crate::specs::Slot::put, crate::specs::Slot::row, crate::specs::Table::slots))]

@@ -25,18 +25,16 @@ impl Table<'_> {
             if left == 0 {
                 break Stop::Full;
             }
-            let first = self.slot(i);
-            if first.is_of::<SOUGHT>(key) {
+            if self.is_of::<SOUGHT>(i, key) {
                 break Stop::Hit(i);
             }
-            let second = self.slot(i + 1);
-            if second.is_of::<SOUGHT>(key) {
+            if self.is_of::<SOUGHT>(i + 1, key) {
                 break Stop::Hit(i + 1);
             }
-            if first.is_empty() {
+            if self.is_empty(i) {
                 break Stop::Empty(i);
             }
-            if second.is_empty() {
+            if self.is_empty(i + 1) {
                 break Stop::Empty(i + 1);
             }
             i = (i + 2) & (n - 1);
@@ -66,13 +64,11 @@ impl Table<'_> {
         ensures { tells_probe (Ok result) ≡ glimpsed self.entry.words.now (near self.entry.words.now key.name) }
     {
         let i = (key.name.h as usize) & mask;
-        let first = self.slot(i);
-        if first.is_of::<true>(key) {
-            return Some(first.value);
+        if self.is_of::<true>(i, key) {
+            return Some(self.slot(i).value);
         }
-        let second = self.slot(i + 1);
-        if second.is_of::<true>(key) {
-            return Some(second.value);
+        if self.is_of::<true>(i + 1, key) {
+            return Some(self.slot(i + 1).value);
         }
         None
     }
