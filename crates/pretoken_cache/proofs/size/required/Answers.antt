@@ -5,7 +5,7 @@ use Rattle.pretoken_cache.proofs.Doubling.{below_n, required_start, doubles_most
 use Rattle.pretoken_cache.proofs.size.required.Goals as goal
 
 pub loop-cap-init : goal.loop-cap-init
-loop-cap-init c = let p = c.next_power_of_two-cap.ensures in required_start _ _ c.requires.1 c.max.ensures (p.power, p.lower_bound, p.upper_bound)
+loop-cap-init c = let p = c.next_power_of_two-cap.ensures in required_start _ _ c.requires.1 (omega (arith, c.max.ensures)) (p.power, p.lower_bound, p.upper_bound)
 
 pub laden-requires : goal.laden-requires
 laden-requires c = ((doubles_most c.loop-cap.invariant).1, omega arith)
