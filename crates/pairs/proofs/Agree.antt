@@ -25,10 +25,14 @@ look_small s a b p m e =
 pub look_stays : (s : List ℕ) → StaysUpTo top (look s)
 look_stays s a b p m la lb e = (look_small s a b p m e).1
 
--- a row of ids is a row of numbers up to the largest id
+-- a row of ids is a row of numbers up to the largest id, and such a row is one of ids
 pub up_to_top : (row : List ℕ) → Legal row → AllUpTo top row
 up_to_top [] l = tt
 up_to_top (x ∷ row) l = (l.0, up_to_top row l.1)
+
+pub legal_up_to : (row : List ℕ) → AllUpTo top row → Legal row
+legal_up_to [] l = tt
+legal_up_to (x ∷ row) l = (l.0, legal_up_to row l.1)
 
 -- an accepted list merges a row of ids as its table does
 pub table_merges : (list : List ℕ) (vocab n : ℕ) → Accepted list vocab n
