@@ -21,6 +21,7 @@ const LONG: usize = 66;
 // List A.
 const A: [u32; 18] = [1, 2, 10, 2, 3, 9, 1, 9, 12, 10, 3, 11, 5, 5, 8, 8, 5, 7];
 
+// A write that fails ends it with the error as std writes it. No list of the sheet is refused where it is built for a row.
 fn main(rt: HostRuntime) -> io::Result<()> {
     table_rows(&rt)?;
     size_rows(&rt)?;
@@ -29,11 +30,6 @@ fn main(rt: HostRuntime) -> io::Result<()> {
     longer_lists(&rt)?;
     fives(&rt)?;
     cache_rows(&rt)
-}
-
-// No row of the sheet is refused; an error of a write prints as std writes it.
-fn refused(_why: Refusal) -> io::Error {
-    io::Error::from(ErrorKind::InvalidInput)
 }
 
 // ---- the pair table
@@ -48,7 +44,7 @@ fn table_rows(rt: &impl Print) -> io::Result<()> {
 
 fn stored(rt: &impl Print, a: u32, b: u32, m: u32) -> io::Result<()> {
     let mut slots = [0; 64];
-    pairs::build(&[a, b, m], TokenId::VOCAB_MAX, &mut slots).map_err(refused)?;
+    pairs::build(&[a, b, m], TokenId::VOCAB_MAX, &mut slots).map_err(|_| ErrorKind::InvalidInput)?;
     let taken = slots
         .iter()
         .enumerate()
@@ -89,7 +85,7 @@ fn sized(rt: &impl Print, list: &[u32], rules: usize, slots: &mut [u64]) -> io::
 // Pairs that are looked up under list A, among them the two that the Rust answers.
 fn pair_rows(rt: &impl Print) -> io::Result<()> {
     let mut slots = [0; 64];
-    pairs::build(&A, TokenId::VOCAB_MAX, &mut slots).map_err(refused)?;
+    pairs::build(&A, TokenId::VOCAB_MAX, &mut slots).map_err(|_| ErrorKind::InvalidInput)?;
     asked(rt, &slots, 8, 5)?;
     asked(rt, &slots, 5, 8)?;
     asked(rt, &slots, 0, 2097157)?;
@@ -148,7 +144,7 @@ fn fives(rt: &impl Print) -> io::Result<()> {
 // The row by itself, and with fillers behind it, so that it is long.
 fn row_under(rt: &impl Print, list: &[u32], name: &str, given: &[u32]) -> io::Result<()> {
     let mut slots = [0; 64];
-    pairs::build(list, TokenId::VOCAB_MAX, &mut slots).map_err(refused)?;
+    pairs::build(list, TokenId::VOCAB_MAX, &mut slots).map_err(|_| ErrorKind::InvalidInput)?;
     print!(rt; "{name}:")?;
     ids(rt, given)?;
     print!(rt; " gives")?;
